@@ -1,0 +1,65 @@
+-- `encode_shape` meets its contract: the data is as at entry, and every line passed sums to zero. Assumes nothing.
+use borrow.Author.Needs.{needs}
+use native.Mathlib.Omega.{arith}
+use Prim.Native.Nat.{_+_, _-_}
+use mathlib.Core.Path.{_∙_}
+use Rattle.code.specs.Shift.{shift}
+use Rattle.code.specs.ShiftLaws.{shift-fair}
+use Rattle.stripe.specs.EncodeLaws.{EncodedTo, encoded-none, encoded-more, encoded-all}
+use Rattle.stripe.proofs.encoding.encode_shape.Statement.{statement}
+use Rattle.stripe.proofs.encoding.encode_shape.Tie as tie
+
+abbrev Inv-loop : tie.InvT-loop
+Inv-loop shape stripe₀ last t₀ stripe t = EncodedTo (shift (shape .n) (shape .r) (shape .s)) (shape .e) stripe₀ t stripe
+
+abbrev μ-loop : tie.MeasureT-loop
+μ-loop shape stripe₀ last t₀ stripe t = last + 1 - t
+
+add-last : tie.Need-add-last Inv-loop μ-loop
+add-last c = search needs
+
+sub-last : tie.Need-sub-last Inv-loop μ-loop
+sub-last c = search needs
+
+loop-holds : tie.Need-loop-holds Inv-loop μ-loop
+loop-holds c = encoded-none _ _ _
+
+set-parity-requires : tie.Need-set-parity-requires Inv-loop μ-loop
+set-parity-requires c κs =
+    let start = c .before .before .before .before .before in
+    (start .pre .0, (omega arith, c .before .before .loop .inv .size ∙ start .pre .1))
+
+add-t : tie.Need-add-t Inv-loop μ-loop
+add-t c = search needs
+
+loop-less : tie.Need-loop-less Inv-loop μ-loop
+loop-less c = search needs
+
+loop-again : tie.Need-loop-again Inv-loop μ-loop
+loop-again c =
+    let a = c .before .before .before .before .before .before .before .before .args .shape in
+    encoded-more _ (shift-fair (a .n) (a .r) (a .s) (omega arith)) _ _ _ _ (c .before .before .before .before .before .loop .inv) _ (omega arith) (c .before .before .set-parity .ensures)
+
+same-length : tie.Need-same-length Inv-loop μ-loop
+same-length c = c .before .loop .inv .size
+
+returns : tie.Need-returns Inv-loop μ-loop
+returns c =
+    let a = c .before .before .before .before .args .shape in
+    encoded-all _ (shift-fair (a .n) (a .r) (a .s) (omega arith)) _ _ _ _ (c .before .loop .inv) (omega arith)
+
+pub encode-shape-spec : {M : Type 1} → statement M
+encode-shape-spec =
+    tie.close
+    (tie.spec
+    Inv-loop
+    μ-loop
+    add-last
+    sub-last
+    loop-holds
+    set-parity-requires
+    add-t
+    loop-less
+    loop-again
+    same-length
+    returns)

@@ -1,0 +1,37 @@
+-- What the contracts of the calls on a stripe cite, in reading order.
+-- Lines 1 to 6, and lines as the code lists them.
+pub mod Opened
+pub mod OpenedLaws
+pub mod Listed
+pub mod ListedLaws
+-- Encode.
+pub mod Encode
+pub mod Parity
+pub mod ParityLaws
+pub mod ParitySetLaws
+pub mod EncodeLaws
+pub mod EncodeDetermined
+-- Write and read.
+pub mod Write
+pub mod Patch
+pub mod PatchLaws
+pub mod WrittenLaws
+pub mod WriteLaws
+pub mod WriteNumber
+pub mod WriteCall
+pub mod Read
+pub mod ReadLaws
+-- Scrub.
+pub mod Scrub
+pub mod Tally
+pub mod TestLaws
+pub mod TallyLaws
+pub mod ScrubLaws
+pub mod FoundLaws
+pub mod ScrubAnswers
+pub mod LinesOf
+pub mod ChangedAt
+pub mod ScrubTheorems
+pub mod ScrubCases
+pub mod Calls
+pub mod ShutOut

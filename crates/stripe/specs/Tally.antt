@@ -1,0 +1,39 @@
+-- What scrub learns on its way: whether a line is wrong, how many of a run of lines are and the first that is, and what that finds.
+-- Assumes nothing.
+-- unbalanced e s ps == the places ps do not sum to zero in some byte    counted-of L e s == what scrub answers on a buffer of the right size
+use mathlib.Core.Path.{_≡_}
+use mathlib.Core.Bool.{Bool, not}
+use mathlib.Core.List.{List}
+use Prim.Native.Nat.{ℕ}
+use lib.Dec.{eqb}
+use Rattle.code.specs.Sum.{sum}
+use Rattle.code.specs.Place.{at}
+use Rattle.code.specs.Layout.{Layout}
+use Rattle.code.specs.Drawn.{first}
+use Rattle.shape.specs.declared.Judged.{Judged}
+use Rattle.shape.specs.declared.Judged.the-variants as judged
+use Rattle.stripe.specs.declared.scrubbing.Finding.{Finding}
+use Rattle.stripe.specs.declared.scrubbing.Finding.the-variants as finding
+use Rattle.stripe.specs.declared.scrubbing.Scrubbed.{Scrubbed}
+use Rattle.stripe.specs.declared.scrubbing.Scrubbed.the-variants.{Counted, Refused}
+use Rattle.stripe.specs.Scrub.{some, count, wrong-row, wrong-diagonal, found}
+
+unfoldable pub unbalanced : ℕ → List ℕ → List ℕ → Bool
+unbalanced e s ps = some e (λ k. not (eqb (sum (at s e k) ps) 0))
+
+-- c of the tests 0 .. m - 1 hold, the first of them at f; f is m where none does
+pub record Tallied (m : ℕ) (t : ℕ → Bool) (c f : ℕ) : Type 0 where
+  pub many : c ≡ count m t
+  pub lowest : f ≡ first m t
+
+-- x is the finding on every stripe with a wrong rows, the first of them i, and b wrong diagonals, the first of them d
+pub record FoundBy (L : Layout) (a i b d : ℕ) (x : Finding) : Type 0 where
+  pub is : (e : ℕ) (s : List ℕ) → Tallied (L .r) (wrong-row L e s) a i → Tallied (L .n) (wrong-diagonal L e s) b d → x ≡ found L e s
+
+abbrev pub counted-of : Layout → ℕ → List ℕ → Scrubbed
+counted-of L e s = Counted (count (L .r) (wrong-row L e s)) (count (L .n) (wrong-diagonal L e s)) (found L e s)
+
+-- what scrub answers before any line is read
+abbrev pub uncounted : Judged → Scrubbed
+uncounted (judged.Good h b) = Counted 0 0 finding.Sound
+uncounted (judged.Refused x) = Refused x
