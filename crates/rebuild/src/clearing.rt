@@ -1,0 +1,42 @@
+// A strip set to zero: what is lost is no longer read as data.
+use shape::Shape;
+ghost use mathlib.Core.Path.{_≡_};
+ghost use Prim.Native.Nat.{_+_, _*_, _≤_};
+ghost use lib.ListN.{length};
+ghost use Rattle.code.specs.Layout.{places};
+ghost use Rattle.code.specs.Shift.{shift};
+ghost use Rattle.shape.specs.Limits.{Limits};
+ghost use Rattle.element.specs.Filled.{Filled};
+ghost use Rattle.rebuild.specs.Clear.{Rows, Clears};
+
+// The rows that a strip stores: the last one has no corner.
+fn rows(shape: Shape, strip: usize) -> usize
+    requires { ⌜ Limits (shape .n) (shape .r) (shape .s) (shape .e) ⌝ }
+    ensures { λ m. ⌜ Rows (shift (shape .n) (shape .r) (shape .s)) strip m ⌝ }
+{
+    let r = shape.r;
+    if strip < shape.n { r + 1 } else { r }
+}
+
+// The m bytes from d on become zero.
+fn zero(stripe: &mut [u8], d: usize, m: usize)
+    requires { ⌜ d + m ≤ length (now stripe) ⌝ }
+    ensures { λ _. ⌜ Filled (now (stripe .entry)) d m (λ k. 0) (now (stripe .exit)) ⌝ }
+{
+    for t in 0..m {
+        stripe[d + t] = 0;
+    }
+}
+
+// Every byte of the strip becomes zero; nothing else changes.
+pub fn clear(shape: Shape, strip: usize, stripe: &mut [u8])
+    requires { ⌜ Limits (shape .n) (shape .r) (shape .s) (shape .e) ⌝ }
+    requires strip { ⌜ strip ≤ shape .n ⌝ }
+    requires size { ⌜ length (now stripe) ≡ shape .e * places (shift (shape .n) (shape .r) (shape .s)) ⌝ }
+    ensures { λ _. ⌜ Clears (shift (shape .n) (shape .r) (shape .s)) (shape .e) strip (now (stripe .entry)) (now (stripe .exit)) ⌝ }
+{
+    let m = rows(shape, strip);
+    let e = shape.e;
+    let d = strip * (shape.r + 1) * e;
+    zero(stripe, d, m * e);
+}
