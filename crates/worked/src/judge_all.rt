@@ -82,7 +82,7 @@ fn line(word: &[u8], count: u64) {
 }
 
 // How many of all inputs give each number.
-pub fn totals() {
+pub(crate) fn totals() {
     let mut t = Tally::new();
     for n in 0..34 {
         t = t.with_strips(n);
@@ -98,7 +98,7 @@ pub fn totals() {
 }
 
 // How many shapes of each n from 3 to 32 are good and weak.
-pub fn by_strips() {
+pub(crate) fn by_strips() {
     for n in 3..33 {
         let t = Tally::new().with_strips(n);
         part(b"n", n as u64);

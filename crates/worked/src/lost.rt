@@ -2,7 +2,7 @@
 use crate::small::line;
 
 // Case B's stripe with strips 0 and 1 lost; then the same with U(4) changed from 44 to 45, so that no sound stripe agrees.
-pub fn case_c() {
+pub(crate) fn case_c() {
     let mut s = [
         0xffu8,
         0xff,
@@ -48,7 +48,7 @@ pub fn case_c() {
 }
 
 // n = 8, r = 3, s = 5 with strips 0 and 4 lost; its data byte of row i and strip j is 7 (8 i + j) + 1.
-pub fn three_chains() {
+pub(crate) fn three_chains() {
     let mut s = [
         0xffu8,
         0xff,
@@ -91,7 +91,7 @@ pub fn three_chains() {
 }
 
 // A strip above n; three strips; nothing lost from a sound stripe; a mask that a weak shape never comes to.
-pub fn masks() {
+pub(crate) fn masks() {
     let mut s = [0u8; 17];
     line(b"mask 40", rebuild::rebuild(5, 2, 2, 1, &mut s, 64), b"");
     line(b"mask 7", rebuild::rebuild(5, 2, 2, 1, &mut s, 7), b"");

@@ -38,7 +38,7 @@ fn number(x: Answer) -> u64 {
 }
 
 // A word, the number of an answer, and bytes.
-pub fn line(word: &[u8], x: Answer, s: &[u8]) {
+pub(crate) fn line(word: &[u8], x: Answer, s: &[u8]) {
     io::write_all(STDOUT_FILENO, word);
     io::write_all(STDOUT_FILENO, b" ");
     io::print_decimal(STDOUT_FILENO, number(x));
@@ -93,14 +93,14 @@ fn scrubbed(s: &[u8]) {
 }
 
 // Case A: data 11 22 44.
-pub fn case_a() {
+pub(crate) fn case_a() {
     let mut s = [0x11u8, 0, 0x22, 0, 0x44, 0, 0];
     let x = stripe::encode(3, 1, 1, 1, &mut s);
     line(b"A", x, &s);
 }
 
 // Case B: row 0 is 01 02 04 08 10, row 1 is 20 40 80 03 05; then case D, FF written at row 0, strip 2.
-pub fn case_b_d() {
+pub(crate) fn case_b_d() {
     let mut s = [
         1u8,
         0x20,
@@ -139,14 +139,14 @@ pub fn case_b_d() {
 }
 
 // Case D's stripe with a data byte changed; with H 0 changed; with H 0 and two bytes of U changed.
-pub fn damaged() {
+pub(crate) fn damaged() {
     scrubbed(b"\x01\x20\x88\x02\x40\x13\xff\x80\x04\x08\x04\x22\x10\x05\xbf\xe4\xe6");
     scrubbed(b"\x01\x20\x88\x02\x40\x13\xff\x80\x04\x08\x03\x22\x10\x05\xbf\x00\xe6");
     scrubbed(b"\x01\x20\x88\x02\x40\x00\xff\x80\x00\x08\x03\x22\x10\x05\xbf\x00\xe6");
 }
 
 // A data element that is not there, an offset past its end, a length that does not fit, a weak shape.
-pub fn refused() {
+pub(crate) fn refused() {
     let mut s = [0u8; 17];
     let a = stripe::write(5, 2, 2, 1, &mut s, 0, 5, 0, b"\x01");
     line(b"strip 5", a, b"");
