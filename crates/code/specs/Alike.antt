@@ -1,8 +1,7 @@
 -- Codes that have the same places, strips and lines: what is decided or fails in the one is so in the other. Assumes nothing.
 use Prim.Native.Nat.{ℕ, _<_}
 use mathlib.Core.Path.{_≡_, sym, ap, _∙_, subst}
-use mathlib.Core.List.{List}
-use mathlib.Core.Bool.{Bool, false}
+use mathlib.Core.Bool.{Bool}
 use Rattle.code.specs.Sum.{sum}
 use Rattle.code.specs.Code.{Code, Balanced, Agree, Same, Bytes, Fails, Decided}
 

@@ -5,7 +5,7 @@ use mathlib.Core.Path.{_≡_}
 use mathlib.Core.Logic.{_⊎_}
 use lib.Dec.{eqb}
 use Rattle.code.specs.Sum.{pick}
-use Rattle.code.specs.Code.{Code, Fails, Decided}
+use Rattle.code.specs.Code.{Fails, Decided}
 use Rattle.code.specs.Layout.{Layout, code, pair}
 
 -- the first of d, d + 1, .., of at most f of them, that divides n; n where none does

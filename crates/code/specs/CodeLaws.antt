@@ -1,6 +1,6 @@
 -- Laws of codes by lines: what fails is not decided; fewer lost strips are decided where more are. Assumes nothing.
 use Prim.Native.Nat.{ℕ, _<_}
-use mathlib.Core.Path.{_≡_, refl, sym, ap, _∙_}
+use mathlib.Core.Path.{_≡_, refl, sym, _∙_}
 use mathlib.Core.Bool.{Bool, true, false}
 use Rattle.code.specs.SumLaws.{clash}
 use Rattle.code.specs.Code.{Code, Agree, Fails, Decided}

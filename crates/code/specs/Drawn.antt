@@ -1,20 +1,15 @@
 -- The layout that a map draws: m is the map of diagonals, rows by strips, and h the strip that stores each diagonal's parity. Assumes nothing.
--- cell m i j == what stands at row i and strip j of the map    first n t == the first j below n where t holds, else n
-use Prim.Native.Nat.{ℕ, zero, suc, _<_}
+-- cell m i j == what stands at row i and strip j of the map
+use Prim.Native.Nat.{ℕ, _<_}
 use mathlib.Core.Path.{_≡_}
-use mathlib.Core.Bool.{Bool}
 use mathlib.Core.List.{List, []}
 use lib.Dec.{eqb}
 use lib.ListN.{getD}
-use Rattle.code.specs.Sum.{pick}
+use Rattle.code.specs.Below.{first}
 use Rattle.code.specs.Layout.{Layout}
 
 abbrev pub cell : List (List ℕ) → ℕ → ℕ → ℕ
 cell m i j = getD (getD m i []) j 0
-
-unfoldable pub first : ℕ → (ℕ → Bool) → ℕ
-first zero t = 0
-first (suc n) t = pick (t 0) 0 (suc (first n (λ j. t (suc j))))
 
 abbrev pub drawn : List (List ℕ) → List ℕ → ℕ → ℕ → Layout
 drawn m h n r =

@@ -9,12 +9,13 @@ use native.Mathlib.Omega.{arith}
 use lib.Dec.{ltb, eqb}
 use lib.ListN.{getD}
 use borrow.Author.Tests.{eq-eqb, eqb-true, le-ltb}
-use Rattle.code.specs.Sum.{table, pick}
+use Rattle.code.specs.Sum.{pick}
 use Rattle.code.specs.SumLaws.{table-ext, clash}
 use Rattle.code.specs.Alike.{Alike}
 use Rattle.code.specs.Layout.{Layout, Fair, Latin, X, U, row-line, diagonal-line, line, code}
 use Rattle.code.specs.LayoutLaws.{by-lines, line-row, line-diagonal}
-use Rattle.code.specs.Drawn.{cell, first, drawn, Draws}
+use Rattle.code.specs.Below.{first}
+use Rattle.code.specs.Drawn.{cell, drawn, Draws}
 
 pub record FirstIs (n : ℕ) (t : ℕ → Bool) (x : ℕ) : Type 0 where
   pub below : x < n

@@ -1,7 +1,7 @@
 -- ENCODED: the stripe with given data and every H and U at its value. It is sound, and its bytes are bytes where the data's are.
 -- Assumes nothing.
 -- x i j == the data of row i in strip j
-use Prim.Native.Nat.{ℕ, _*_, _<_}
+use Prim.Native.Nat.{ℕ, _<_}
 use mathlib.Core.Path.{_≡_, sym, ap, ap₂, _∙_, subst}
 use mathlib.Core.Bool.{Bool}
 use native.Mathlib.Omega.{arith}

@@ -1,15 +1,15 @@
 -- None or two: a set that meets a line in no place or in two sums to zero along it; and a set that is never alone on a line and never
 -- three there meets it in none or two. Assumes nothing.
 use Prim.Native.Nat.{ℕ, zero, suc, _<_}
-use mathlib.Core.Path.{_≡_, refl, sym, ap, ap₂, _∙_, subst}
-use mathlib.Core.Logic.{_≢_, _⊎_, inl, inr}
+use mathlib.Core.Path.{_≡_, refl, ap, ap₂, _∙_, subst}
+use mathlib.Core.Logic.{_≢_}
 use mathlib.Core.Bool.{Bool, true, false}
 use native.Mathlib.Decide.{ℕ-discrete, decLt}
 use native.Mathlib.Nat.{not-suc-le-zero}
 use native.Mathlib.Omega.{arith}
 use Rattle.code.specs.Xor.{_⊕_, ⊕-self}
 use Rattle.code.specs.Sum.{sumTo, only}
-use Rattle.code.specs.SumLaws.{sumTo-nil, sumTo-two, clash}
+use Rattle.code.specs.SumLaws.{sumTo-nil, sumTo-two}
 
 -- of f 0, .., f (m - 1) none holds, or exactly two do
 pub data NoneOrTwo (m : ℕ) (f : ℕ → Bool) : Type 0 where

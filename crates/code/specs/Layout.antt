@@ -1,7 +1,7 @@
 -- The HoVer layout: rows, diagonals and their lines, as a code. The shift family is one instance (Shift). Assumes nothing.
 -- X L i j == the place of the data of row i in strip j    H L i == of the parity of row i    U L d == of the parity of diagonal d
 use mathlib.Core.Path.{_≡_}
-use mathlib.Core.Bool.{Bool, true, false}
+use mathlib.Core.Bool.{Bool, true}
 use mathlib.Core.List.{List}
 use Prim.Native.Nat.{ℕ, _+_, _-_, _*_, _<_}
 use lib.Dec.{ltb, eqb}

@@ -11,7 +11,7 @@ use lib.Dec.{ltb, eqb}
 use lib.ListN.{length, getD}
 use borrow.Author.Tests.{lt-ltb, le-ltb, eq-eqb, ne-eqb}
 use Rattle.code.specs.Xor.{_⊕_}
-use Rattle.code.specs.Sum.{sum, sumTo, table, pick}
+use Rattle.code.specs.Sum.{sum, sumTo, pick}
 use Rattle.code.specs.SumLaws.{sumTo-more, sumTo-ext, length-table, getD-table, sum-table, clash}
 use Rattle.code.specs.Code.{Within}
 use Rattle.code.specs.Place.{place, strip-of, row-of, place-strip, place-below, before}

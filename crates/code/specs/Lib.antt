@@ -5,6 +5,9 @@ pub mod Sum
 pub mod SumLaws
 pub mod Even
 pub mod Test
+pub mod Below
+pub mod BelowLaws
+pub mod CountLaws
 -- Any code given by lines.
 pub mod Code
 pub mod CodeLaws

@@ -8,7 +8,7 @@ use mathlib.Core.List.{List}
 use mathlib.Core.Bool.{Bool, true, false}
 use native.Mathlib.Decide.{ℕ-discrete}
 use native.Mathlib.Omega.{arith}
-use lib.ListN.{length, getD}
+use lib.ListN.{getD}
 use Rattle.code.specs.Sum.{sum}
 use Rattle.code.specs.SumLaws.{clash}
 use Rattle.code.specs.Code.{Code, Within, Balanced, Agree, Same}

@@ -1,6 +1,5 @@
 -- Laws of sound: 01's form by diagonals is the published one, and a stripe is sound exactly when every line sums to zero. Assumes nothing.
-use mathlib.Core.Path.{_≡_, refl, sym, ap, _∙_}
-use mathlib.Core.List.{List}
+use mathlib.Core.Path.{_≡_, sym, ap, _∙_}
 use Prim.Native.Nat.{ℕ, _+_, _<_}
 use native.Mathlib.Omega.{arith}
 use lib.Dec.{eqb}
@@ -8,7 +7,7 @@ use Rattle.code.specs.Xor.{_⊕_, ⊕-eq, ⊕-of-eq}
 use Rattle.code.specs.Sum.{sum, sumTo, only}
 use Rattle.code.specs.SumLaws.{sumTo-ext, sumTo-one, only-yes, only-no}
 use Rattle.code.specs.Code.{Balanced}
-use Rattle.code.specs.Layout.{Layout, Fair, X, H, U, row-line, diagonal-line, line, code}
+use Rattle.code.specs.Layout.{Layout, Fair, X, H, U, code}
 use Rattle.code.specs.LayoutLaws.{row-sum, diagonal-sum, line-row, line-diagonal, by-lines}
 use Rattle.code.specs.Sound.{along, Sound, Published}
 

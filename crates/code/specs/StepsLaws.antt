@@ -1,24 +1,24 @@
 -- Written steps are steps of the code: where each is right as written, the plan is right, and where every lost place is a target it is
 -- complete; so a walk that left nothing shows that the lost set is decided. Assumes nothing.
-use Prim.Native.Nat.{ℕ, suc, _+_, _*_, _<_, _≤_}
+use Prim.Native.Nat.{ℕ, _+_, _<_, _≤_}
 use mathlib.Core.Path.{_≡_, refl, sym, ap, ap₂, _∙_, subst}
 use mathlib.Core.Logic.{_≢_, inl, inr}
 use mathlib.Core.List.{List}
-use mathlib.Core.Bool.{Bool, true, false}
-use native.Mathlib.Decide.{ℕ-discrete, decLt}
+use mathlib.Core.Bool.{Bool, true}
+use native.Mathlib.Decide.{decLt}
 use native.Mathlib.Omega.{arith}
 use lib.Dec.{eqb}
 use lib.ListN.{length, getD}
 use borrow.Author.Tests.{eq-eqb, ne-eqb}
 use Rattle.code.specs.Sum.{pick}
 use Rattle.code.specs.Code.{Code, Decided}
-use Rattle.code.specs.Plan.{Step, Built, Given, Gives, Right, Complete}
+use Rattle.code.specs.Plan.{Built, Given, Gives, Right, Complete}
 use Rattle.code.specs.Plan as plan
 use Rattle.code.specs.Peel.{peel}
-use Rattle.code.specs.Place.{place, strip-of, same-strip, same-row, place-strip}
-use Rattle.code.specs.Layout.{Layout, Fair, height, X, H, U, places, row-line, diagonal-line, line, code}
+use Rattle.code.specs.Place.{strip-of, same-strip, same-row, place-strip}
+use Rattle.code.specs.Layout.{Layout, Fair, height, X, row-line, diagonal-line, line, code}
 use Rattle.code.specs.LayoutLaws.{row-length, row-at, diagonal-length, diagonal-at, diagonal-end, line-row, line-diagonal, layout-within, by-places, X-strip, H-strip, U-strip}
-use Rattle.code.specs.Live.{row, diagonal, Known, survives, built, Lone}
+use Rattle.code.specs.Live.{row, diagonal, Known, survives, built}
 use Rattle.code.specs.Steps.{Written, line-of, plan-of, BuiltAt, RightStep, by-row, by-diagonal, of-row, of-strip, RightSteps}
 use Rattle.code.specs.Walk.{AllBuilt, Walk}
 

@@ -10,7 +10,7 @@ use Rattle.code.specs.Sum.{pick}
 use Rattle.code.specs.SumLaws.{clash}
 use Rattle.code.specs.Layout.{Layout, Fair, Latin, code, pair}
 use Rattle.code.specs.LayoutLaws.{pair-yes}
-use Rattle.code.specs.Live.{row, diagonal, Known, survives, built, Lone, Finished}
+use Rattle.code.specs.Live.{row, diagonal, Known, survives, built, Finished}
 use Rattle.code.specs.Even.{NoneOrTwo, none-or-two}
 use Rattle.code.specs.Stuck.{EvenSet, stuck-places}
 use Rattle.code.specs.Steps.{Written, BuiltAt}

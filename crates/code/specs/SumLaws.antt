@@ -11,7 +11,7 @@ use lib.Dec.{eqb}
 use lib.ListN.{length, getD}
 use borrow.Author.Tests.{eq-eqb, ne-eqb}
 use Rattle.code.specs.Xor.{_⊕_, ⊕-assoc, ⊕-comm, ⊕-zero, zero-⊕, ⊕-byte, ⊕-swap}
-use Rattle.code.specs.Sum.{sum, sumTo, table, only, pick}
+use Rattle.code.specs.Sum.{sum, sumTo, table, only}
 
 -- ---- sums over 0 .. n - 1
 

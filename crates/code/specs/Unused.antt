@@ -1,17 +1,17 @@
 -- THE UNUSED LINES: after a right and complete plan has run, the lines that a step used sum to zero by themselves; so the stripe is sound
 -- exactly when the lines that no step used sum to zero, and exactly when some sound stripe agrees with the survivors. Assumes nothing.
 use Prim.Native.Nat.{ℕ, zero, suc, _<_, _≤_}
-use mathlib.Core.Path.{_≡_, refl, sym, ap, _∙_, subst}
-use mathlib.Core.Logic.{_≢_, _⊎_, inl, inr, _↔_}
+use mathlib.Core.Path.{_≡_, sym, ap, _∙_, subst}
+use mathlib.Core.Logic.{_≢_, _↔_}
 use mathlib.Core.Bool.{Bool}
-use native.Mathlib.Decide.{ℕ-discrete, decLt}
+use native.Mathlib.Decide.{ℕ-discrete}
 use native.Mathlib.Omega.{arith}
 use lib.ListN.{length, getD}
 use Rattle.code.specs.Sum.{sum}
 use Rattle.code.specs.SumLaws.{sum-ext}
 use Rattle.code.specs.Code.{Code, Within, Balanced, Agree, Same}
 use Rattle.code.specs.Plan.{Step, Built, Given, survives, built, Gives, Right, Complete}
-use Rattle.code.specs.Run.{Ran, Run, given-other, run-keeps, run-gives}
+use Rattle.code.specs.Run.{Run, given-other, run-keeps, run-gives}
 
 -- no step of the plan used line t
 pub record Unused (plan : ℕ → Step) (k t : ℕ) : Type 0 where

@@ -7,7 +7,7 @@ use lib.ListN.{length, getD, take, drop, length-drop}
 use lib.Seq.{getD-take, getD-drop, length-take-le, ext-getD}
 use Rattle.code.specs.Xor.{_⊕_}
 use Rattle.code.specs.SumLaws.{length-table, getD-table}
-use Rattle.element.specs.Filled.{Begins, Filled}
+use Rattle.element.specs.Filled.{Filled}
 use Rattle.element.specs.FilledLaws.{filled-begins, filled-part}
 use Rattle.element.specs.Added.{added}
 

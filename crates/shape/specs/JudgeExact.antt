@@ -1,8 +1,8 @@
 -- DEMAND 3, from judge's contract alone: within the limits the answer is 0 exactly when no two different sound stripes of e-byte elements
 -- look alike with any two strips removed, and exactly when the published bound holds; and it is 5 with (a, b) exactly when (a, b) is the
 -- first pair outside which two such stripes agree, and both are given. Assumes nothing.
-use mathlib.Core.Path.{_≡_, refl, sym, ap, _∙_, subst}
-use mathlib.Core.Logic.{_⊎_, inl, inr, _↔_}
+use mathlib.Core.Path.{_≡_, refl, sym, ap, _∙_}
+use mathlib.Core.Logic.{_↔_}
 use Prim.Native.Nat.{ℕ, _<_, _≤_}
 use native.Mathlib.Omega.{arith}
 use Rattle.code.specs.Layout.{Layout, Fair, code, pair}
@@ -15,9 +15,8 @@ use Rattle.code.specs.Exact.{exact, good?, good-decided, Order, order, first, e
 use Rattle.code.specs.Lookalikes.{Lookalikes, lookalikes-of-fails, no-lookalikes-of-decided}
 use Rattle.shape.specs.declared.Judged.{Judged}
 use Rattle.shape.specs.declared.Judged.the-variants.{Good, Refused}
-use Rattle.shape.specs.declared.refusal.Refusal.{Refusal}
 use Rattle.shape.specs.declared.refusal.Refusal.the-variants.{Weak}
-use Rattle.shape.specs.Refusal.{number-of, lower-of, upper-of, weak-of}
+use Rattle.shape.specs.Refusal.{lower-of, upper-of, weak-of}
 use Rattle.shape.specs.Limits.{Limits}
 use Rattle.shape.specs.Judge.{judged-number, Judges}
 use Rattle.shape.specs.JudgeLaws.{number-good, number-weak}

@@ -1,21 +1,16 @@
 -- The set of lost strips, and the mask that gives it. Assumes nothing.
 -- bit-at x j == bit j of x    lost-in x == the lost set of the mask x
--- count-below k lost == how many of the strips 0 .. k - 1 are lost    above-test x n == the test of a one above bit n
+-- above-test x n == the test of a one above bit n
 use mathlib.Core.Path.{_≡_}
 use mathlib.Core.Bool.{Bool, true, false}
-use Prim.Native.Nat.{ℕ, zero, suc, _+_, _/_, _%_, _^_, _<_}
+use Prim.Native.Nat.{ℕ, _+_, _/_, _%_, _^_, _<_}
 use lib.Dec.{leb, eqb}
-use Rattle.code.specs.Sum.{only}
 
 abbrev pub bit-at : ℕ → ℕ → ℕ
 bit-at x j = x / 2 ^ j % 2
 
 abbrev pub lost-in : ℕ → ℕ → Bool
 lost-in x j = eqb (bit-at x j) 1
-
-unfoldable pub count-below : ℕ → (ℕ → Bool) → ℕ
-count-below zero lost = 0
-count-below (suc k) lost = count-below k lost + only (lost k) 1
 
 -- a number has a one above bit n exactly if it is at least 2 ^ (n + 1) (above-exactly of MaskEnds)
 abbrev pub above-test : ℕ → ℕ → Bool

@@ -9,8 +9,9 @@ use lib.Dec.{eqb}
 use lib.Pow.{pow-pos, mod-pow-add, pow-mono}
 use lib.Count.{ones, ones-cat}
 use Rattle.code.specs.Sum.{only}
-use Rattle.shape.specs.Mask.{lost-in, count-below}
-use Rattle.shape.specs.LostLaws.{count-none, none-count}
+use Rattle.code.specs.Below.{count}
+use Rattle.code.specs.CountLaws.{count-zero, zero-count}
+use Rattle.shape.specs.Mask.{lost-in}
 
 -- a number below 2 ^ n has no one at bit n or above
 pub none-from : (x n : ℕ) → x < 2 ^ n → (j : ℕ) → n ≤ j → lost-in x j ≡ false
@@ -22,8 +23,8 @@ ones-bit zero h = refl
 ones-bit (suc zero) h = refl
 ones-bit (suc (suc b)) h = absurd (omega arith)
 
-ones-below : (k x : ℕ) → ones (x % 2 ^ k) ≡ count-below k (lost-in x)
-unfolding count-below ones
+ones-below : (k x : ℕ) → ones (x % 2 ^ k) ≡ count k (lost-in x)
+unfolding count ones
 ones-below zero x = ap ones (mod-one x)
 ones-below (suc k) x =
     ap (λ (e : ℕ). ones (x % 2 ^ e)) (omega arith)
@@ -33,20 +34,20 @@ ones-below (suc k) x =
     ∙ ap₂ (λ (a b : ℕ). a + b) (ones-below k x) (ones-bit (x / 2 ^ k % 2) (mod-lt (x / 2 ^ k) (zero-lt-suc 1)))
 
 -- the ones of a number of k digits are the strips that it loses
-pub ones-count : (k x : ℕ) → x < 2 ^ k → ones x ≡ count-below k (lost-in x)
+pub ones-count : (k x : ℕ) → x < 2 ^ k → ones x ≡ count k (lost-in x)
 ones-count k x h = ap ones (sym (mod-eq-of-lt h)) ∙ ones-below k x
 
 -- a mask that loses a strip is not 0
-pub count-mask : (k x : ℕ) → 0 < count-below k (lost-in x) → 0 < x
+pub count-mask : (k x : ℕ) → 0 < count k (lost-in x) → 0 < x
 count-mask k zero h =
-    let z : count-below k (lost-in 0) ≡ 0 = none-count (lost-in 0) k (λ j l. ap (λ (y : ℕ). eqb (y % 2) 1) (zero-div (2 ^ j))) in
+    let z : count k (lost-in 0) ≡ 0 = zero-count k (lost-in 0) (λ j l. ap (λ (y : ℕ). eqb (y % 2) 1) (zero-div (2 ^ j))) in
     absurd (omega arith)
 count-mask k (suc x) h = zero-lt-suc x
 
 -- and one that loses none of 64 has no one at all
-pub count-empty : (x : ℕ) → x < 2 ^ 64 → count-below 64 (lost-in x) ≡ 0 → (j : ℕ) → lost-in x j ≡ false
+pub count-empty : (x : ℕ) → x < 2 ^ 64 → count 64 (lost-in x) ≡ 0 → (j : ℕ) → lost-in x j ≡ false
 count-empty x h z j = go (decLt j 64)
   where
     go : Dec (j < 64) → lost-in x j ≡ false
-    go (yes l) = count-none (lost-in x) 64 z j l
+    go (yes l) = count-zero 64 (lost-in x) z j l
     go (no l) = none-from x 64 h j (omega arith)

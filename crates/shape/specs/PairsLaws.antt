@@ -1,10 +1,9 @@
 -- From the map to the shape that it was filled from: the pair judge's answer is judge's. Assumes nothing.
-use Prim.Native.Nat.{ℕ, _+_, _*_, _<_, _≤_}
+use Prim.Native.Nat.{ℕ, _+_, _*_, _≤_}
 use mathlib.Core.Path.{_≡_, subst}
 use mathlib.Core.List.{List}
 use native.Mathlib.Omega.{arith}
 use Rattle.code.specs.Alike.{fails-alike, decided-alike}
-use Rattle.code.specs.Bound.{FirstPair}
 use Rattle.code.specs.Drawn.{drawn, Draws}
 use Rattle.code.specs.DrawnLaws.{drawn-fair, drawn-latin, drawn-alike}
 use Rattle.code.specs.Layout.{Layout, Fair, Latin, code, pair}
@@ -17,7 +16,7 @@ use Rattle.shape.specs.declared.refusal.Refusal.the-variants.{Weak}
 use Rattle.shape.specs.Limits.{Limits}
 use Rattle.shape.specs.Map.{Filled, Homes}
 use Rattle.shape.specs.MapLaws.{filled-draws}
-use Rattle.shape.specs.Pairs.{MapOf, NoPair, FirstOf}
+use Rattle.shape.specs.Pairs.{MapOf, FirstOf}
 use Rattle.shape.specs.Judge.{Judges}
 use Rattle.shape.specs.JudgeLaws.{judges-weak, judges-good, no-pair-good}
 

@@ -1,8 +1,8 @@
 -- Programs that the contracts shut out: each contract, applied to what that program would answer on a named shape, is absurd. Assumes nothing.
 use Prim.Native.Nat.{ℕ, zero, suc, _<_}
-use mathlib.Core.Path.{_≡_, refl, sym, ap, _∙_, subst}
+use mathlib.Core.Path.{_≡_, refl, sym, ap, _∙_}
 use mathlib.Core.Logic.{_≢_, _⊎_, inl, inr}
-use mathlib.Core.Bool.{Bool, true, false}
+use mathlib.Core.Bool.{Bool}
 use native.Mathlib.Omega.{arith}
 use Rattle.code.specs.Bound.{q, pr, searched}
 use Rattle.code.specs.Layout.{pair}

@@ -1,12 +1,13 @@
 // The set of lost strips as a 64-bit mask, bit j for strip j: how many are lost, whether one is no strip, the first and the last.
 ghost use mathlib.Core.Path.{_≡_};
 ghost use Prim.Native.Nat.{_≤_, _<_};
+ghost use Rattle.code.specs.Below.{count};
 ghost use Rattle.shape.specs.Answers.{Among};
-ghost use Rattle.shape.specs.Mask.{lost-in, count-below, above-test, FirstLost, LastLost};
+ghost use Rattle.shape.specs.Mask.{lost-in, above-test, FirstLost, LastLost};
 
 // The number of lost strips: the ones of the mask.
 pub fn lost_count(mask: u64) -> u32
-    ensures { λ k. ⌜ Among 65 (count-below 64 (lost-in mask)) k ⌝ }
+    ensures { λ k. ⌜ Among 65 (count 64 (lost-in mask)) k ⌝ }
 {
     u64::count_ones(mask)
 }

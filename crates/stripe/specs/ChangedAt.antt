@@ -13,12 +13,13 @@ use Rattle.code.specs.Sum.{sum}
 use Rattle.code.specs.Place.{at}
 use Rattle.code.specs.Layout.{Layout, Fair, places, row-line, diagonal-line, line}
 use Rattle.code.specs.LayoutLaws.{line-row, line-diagonal, layout-within}
-use Rattle.code.specs.Drawn.{first}
+use Rattle.code.specs.Below.{first}
+use Rattle.code.specs.BelowLaws.{none-some, one-some}
 use Rattle.code.specs.Sound.{Sound}
 use Rattle.code.specs.SoundLaws.{sound-balanced}
 use Rattle.stripe.specs.Scrub.{wrong-row, wrong-diagonal}
-use Rattle.stripe.specs.Tally.{unbalanced, Tallied}
-use Rattle.stripe.specs.TestLaws.{none-some, one-some}
+use Rattle.lines.specs.Unbalanced.{unbalanced}
+use Rattle.stripe.specs.Tally.{Tallied}
 use Rattle.stripe.specs.TallyLaws.{tallied-same, tallied-one, tallied-none}
 use Rattle.stripe.specs.ScrubLaws.{row-wrong, diagonal-wrong}
 use Rattle.stripe.specs.LinesOf.{Once, Off, OnOne, OnNone, once-sum, off-sum}

@@ -1,7 +1,7 @@
 -- Laws of encode: parity after parity, line after line; and its contract leaves no byte open. Assumes nothing.
-use mathlib.Core.Path.{_≡_, refl, sym, _∙_}
+use mathlib.Core.Path.{_≡_, refl, sym, ap, _∙_}
 use mathlib.Core.List.{List}
-use Prim.Native.Nat.{ℕ, _+_, _*_, _≤_, _<_}
+use Prim.Native.Nat.{ℕ, _+_, _-_, _*_, _≤_, _<_}
 use native.Mathlib.Nat.{not-suc-le-zero}
 use native.Mathlib.Omega.{arith}
 use lib.ListN.{length, getD}
@@ -14,7 +14,8 @@ use Rattle.code.specs.LayoutLaws.{by-places}
 use Rattle.code.specs.SoundLaws.{balanced-sound}
 use Rattle.code.specs.AlongLaws.{along-ext}
 use Rattle.code.specs.Lookalikes.{sized-same}
-use Rattle.stripe.specs.Parity.{ParitySet}
+use Rattle.lines.specs.Others.{Builds}
+use Rattle.stripe.specs.Parity.{parity}
 use Rattle.stripe.specs.ParityLaws.{data-parity, other-line}
 use Rattle.stripe.specs.Encode.{EncodedFrom}
 
@@ -30,18 +31,23 @@ pub encoded-none : (L : Layout) (e : ℕ) (s : List ℕ) → EncodedTo L e s 0 s
 encoded-none L e s = record { size = refl; elements = λ i j k li lj lk. refl; lines = λ u l. absurd (not-suc-le-zero l) }
 
 module _ (L : Layout) (F : Fair L) (e : ℕ) (before : List ℕ) (t : ℕ) (s : List ℕ) (p : EncodedTo L e before t s) where
-  -- the parity of line t stands on no line below it
-  pub encoded-more : (u : List ℕ) → t < L .r + L .n → ParitySet L e t s u → EncodedTo L e before (t + 1) u
-  encoded-more u lt q =
+  -- the parity of line t, which stands last on it, stands on no line below it
+  pub encoded-more : (v : ℕ) (u : List ℕ) → t < L .r + L .n → v ≡ length (line L t) - 1 → Builds L e t v s u → EncodedTo L e before (t + 1) u
+  unfolding parity
+  encoded-more v u lt last q =
       record {
         size = q .size ∙ p .size;
-        elements = λ i j k li lj lk. q .each k lk .others (X L i j) (data-parity L i j li lj t lt) ∙ p .elements i j k li lj lk;
+        elements = λ i j k li lj lk. q .each k lk .others (X L i j) (λ z. data-parity L i j li lj t lt (z ∙ is-parity)) ∙ p .elements i j k li lj lk;
         lines = below-more (λ (w : ℕ). (k : ℕ) → k < e → sum (at u e k) (line L w) ≡ 0) t
             (λ w lw k lk.
-            sum-ext (at u e k) (at s e k) (line L w) (λ v lv. q .each k lk .others (getD (line L w) v 0) (other-line L F t w v lt (omega arith) (λ z. omega arith) lv))
+            sum-ext (at u e k) (at s e k) (line L w)
+            (λ x lx. q .each k lk .others (getD (line L w) x 0) (λ z. other-line L F t w x lt (omega arith) (λ y. omega arith) lx (z ∙ is-parity)))
             ∙ p .lines w lw k lk)
             (λ k lk. q .each k lk .balanced);
       }
+    where
+      is-parity : getD (line L t) v 0 ≡ parity L t
+      is-parity = ap (λ (x : ℕ). getD (line L t) x 0) last
 
   -- all lines sum to zero: the stripe is sound
   pub encoded-all : L .r + L .n ≤ t → EncodedFrom L e before s

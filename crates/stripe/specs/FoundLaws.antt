@@ -9,8 +9,9 @@ use lib.Dec.{eqb}
 use borrow.Author.Tests.{eq-eqb, ne-eqb, eqb-true}
 use Rattle.code.specs.Sum.{pick}
 use Rattle.code.specs.Layout.{Layout}
+use Rattle.code.specs.Below.{count}
 use Rattle.stripe.specs.declared.scrubbing.Finding.the-variants as finding
-use Rattle.stripe.specs.Scrub.{count, wrong-row, wrong-diagonal, found}
+use Rattle.stripe.specs.Scrub.{wrong-row, wrong-diagonal, found}
 use Rattle.stripe.specs.Tally.{Tallied}
 
 module _ (L : Layout) (e : ℕ) (s : List ℕ) (a i b d : ℕ)

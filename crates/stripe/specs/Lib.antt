@@ -1,14 +1,11 @@
 -- What the contracts of the calls on a stripe cite, in reading order.
--- Lines 1 to 6, and lines as the code lists them.
+-- Lines 1 to 6.
 pub mod Opened
 pub mod OpenedLaws
-pub mod Listed
-pub mod ListedLaws
 -- Encode.
 pub mod Encode
 pub mod Parity
 pub mod ParityLaws
-pub mod ParitySetLaws
 pub mod EncodeLaws
 pub mod EncodeDetermined
 -- Write and read.
@@ -24,7 +21,6 @@ pub mod ReadLaws
 -- Scrub.
 pub mod Scrub
 pub mod Tally
-pub mod TestLaws
 pub mod TallyLaws
 pub mod ScrubLaws
 pub mod FoundLaws

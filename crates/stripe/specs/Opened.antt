@@ -17,7 +17,8 @@ pub record Opened (n r s e len : ℕ) (h : Shape) : Type 0 where
   pub good : Good n r s
   pub sized : len ≡ bytes-of n r e
 
--- a good shape is opened, and a refusal is the call's, whatever comes after line 6
+-- a good shape is opened and comes with its size, and a refusal is the call's, whatever comes after line 6
 pub record Opens (n r s e len : ℕ) (x : Judged) : Type 0 where
   pub opened : (h : Shape) (b : ℕ) → x ≡ judged.Good h b → Opened n r s e len h
+  pub size : (h : Shape) (b : ℕ) → x ≡ judged.Good h b → b ≡ len
   pub refused : (y : Refusal) → x ≡ judged.Refused y → (last : ℕ) → Answered n r s (call-number n r s e len last) (answer.Refused y)

@@ -6,44 +6,26 @@ use Prim.Native.Nat.{ℕ, _+_, _-_, _≤_, _<_}
 use native.Mathlib.Decide.{decLt}
 use native.Mathlib.Omega.{arith}
 use lib.ListN.{length, getD}
-use lib.Seq.{length-take-le, getD-take}
-use Rattle.code.specs.Xor.{_⊕_}
-use Rattle.code.specs.Sum.{sum, sumTo}
-use Rattle.code.specs.SumLaws.{sumTo-more, sumTo-ext, sum-index}
 use Rattle.code.specs.Place.{same-row, same-strip}
-use Rattle.code.specs.Layout.{Layout, Fair, height, X, H, U, places, row-line, diagonal-line, line}
-use Rattle.code.specs.LayoutLaws.{row-length, row-at, diagonal-length, diagonal-at, diagonal-end, line-row, line-diagonal, by-lines, layout-within}
-use Rattle.stripe.specs.Parity.{parity, rest}
+use Rattle.code.specs.Layout.{Layout, Fair, height, X, H, U, row-line, diagonal-line, line}
+use Rattle.code.specs.LayoutLaws.{row-length, row-at, diagonal-length, diagonal-at, diagonal-end, line-row, line-diagonal, by-lines}
+use Rattle.stripe.specs.Parity.{parity}
 
 module _ (L : Layout) where
-  -- ---- the rest of a line
+  -- ---- where it stands in its line
 
-  -- the rest is all of the line but its last
-  pub rest-length : (t : ℕ) → length (rest L t) ≡ length (line L t) - 1
-  unfolding rest
-  rest-length t = length-take-le (length (line L t) - 1) (line L t) (omega arith)
+  -- last: after the n strips of a row, and after the r rows of a diagonal
+  pub row-last : (i : ℕ) → i < L .r → L .n ≡ length (line L i) - 1
+  row-last i li = omega (arith, ap length (line-row L i li), row-length L i)
 
-  pub rest-at : (t v : ℕ) → v < length (rest L t) → getD (rest L t) v 0 ≡ getD (line L t) v 0
-  unfolding rest
-  rest-at t v l = getD-take (length (line L t) - 1) (line L t) v 0 (omega (arith, rest-length t))
+  pub diagonal-last : (t : ℕ) → L .r ≤ t → L .r ≡ length (line L t) - 1
+  diagonal-last t h =
+      let q : L .r + (t - L .r) ≡ t = omega arith in
+      omega (arith, ap (λ (u : ℕ). length (line L u)) (sym q), ap length (line-diagonal L (t - L .r)), diagonal-length L (t - L .r))
 
-  -- a line's sum is that of the rest and its parity
-  pub sum-parity : (f : ℕ → ℕ) (t : ℕ) → 2 ≤ length (line L t) → sum f (line L t) ≡ sum f (rest L t) ⊕ f (parity L t)
-  unfolding parity
-  sum-parity f t l =
-      sum-index f (line L t)
-      ∙ ap (λ (m : ℕ). sumTo m (λ v. f (getD (line L t) v 0))) one-more
-      ∙ sumTo-more (length (line L t) - 1) (λ v. f (getD (line L t) v 0))
-      ∙ ap (λ (x : ℕ). x ⊕ f (getD (line L t) (length (line L t) - 1) 0)) (sym others)
-    where
-      one-more : length (line L t) ≡ length (line L t) - 1 + 1
-      one-more = omega arith
-
-      others : sum f (rest L t) ≡ sumTo (length (line L t) - 1) (λ v. f (getD (line L t) v 0))
-      others =
-          sum-index f (rest L t)
-          ∙ ap (λ (m : ℕ). sumTo m (λ v. f (getD (rest L t) v 0))) (rest-length t)
-          ∙ sumTo-ext (length (line L t) - 1) (λ v. f (getD (rest L t) v 0)) (λ v. f (getD (line L t) v 0)) (λ v lv. ap f (rest-at t v (omega (arith, rest-length t))))
+  -- so it is one of the line's places
+  pub last-within : (t v : ℕ) → t < L .r + L .n → v ≡ length (line L t) - 1 → v < length (line L t)
+  last-within t v lt = by-lines L (λ u ps. v ≡ length ps - 1 → v < length ps) (λ i li q. omega (arith, row-length L i)) (λ d ld q. omega (arith, diagonal-length L d)) t lt
 
   -- ---- the parity of a row, and of a diagonal
 
@@ -132,14 +114,3 @@ module _ (L : Layout) where
     -- so on no other line
     pub other-line : (t u v : ℕ) → t < L .r + L .n → u < L .r + L .n → u ≢ t → v < length (line L u) → getD (line L u) v 0 ≢ parity L t
     other-line t u v lt lu ne lv e = ne (parity-alone t lt .only u v lu lv e .0)
-
-    -- nor among the rest of its own
-    pub rest-other : (t v : ℕ) → t < L .r + L .n → v < length (rest L t) → getD (rest L t) v 0 ≢ parity L t
-    rest-other t v lt lv e =
-        let len = rest-length t in
-        omega (arith, parity-alone t lt .only t v lt (omega arith) (sym (rest-at t v lv) ∙ e) .1)
-
-    -- it is a place of the stripe
-    pub parity-below : (t : ℕ) → t < L .r + L .n → 2 ≤ length (line L t) → parity L t < places L
-    unfolding parity
-    parity-below t lt l = layout-within L F .below t (length (line L t) - 1) lt (omega arith)

@@ -9,7 +9,7 @@ use native.Mathlib.Omega.{arith}
 use lib.ListN.{length, getD, replicate, take, length-replicate}
 use lib.Seq.{getD-take, length-take-le}
 use Rattle.code.specs.Xor.{_⊕_}
-use Rattle.code.specs.Place.{at, before, inside, same-row, same-strip}
+use Rattle.code.specs.Place.{at, inside, same-row, same-strip}
 use Rattle.code.specs.Layout.{Layout, Fair, height, X, H, U, places}
 use Rattle.code.specs.LayoutLaws.{X-below, H-below, U-below}
 use Rattle.code.specs.Change.{Changed, changed-same}
@@ -21,14 +21,6 @@ use Rattle.stripe.specs.declared.writing.Touched.{Touched}
 use Rattle.stripe.specs.Patch.{Touches, Spots, Patched}
 
 -- ---- the places
-
--- row i of strip j is one of the stripe's places, but for row r of strip n
-pub place-stored : (n r i j : ℕ) → i ≤ r → j ≤ n → i + j < r + n → j * (r + 1) + i < n * (r + 1) + r
-place-stored n r i j li lj l = go (decLt j n)
-  where
-    go : Dec (j < n) → j * (r + 1) + i < n * (r + 1) + r
-    go (yes k) = omega (arith, before (r + 1) j n k)
-    go (no k) = let z : j * (r + 1) ≡ n * (r + 1) = ap (λ (x : ℕ). x * (r + 1)) (omega arith) in omega arith
 
 module _ (L : Layout) (F : Fair L) (i j : ℕ) (li : i < L .r) (lj : j < L .n) where
   -- data, its H and its U stand at three places

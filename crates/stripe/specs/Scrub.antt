@@ -2,15 +2,15 @@
 -- Assumes nothing.
 -- wrong-row L e s i == H(i) is not the sum of its row in some byte    wrong-diagonal L e s d == U(d) is not the sum of its diagonal in some byte
 use mathlib.Core.Path.{_≡_}
-use mathlib.Core.Bool.{Bool, true, false, not}
+use mathlib.Core.Bool.{Bool, not}
 use mathlib.Core.List.{List}
-use Prim.Native.Nat.{ℕ, zero, suc, _+_}
+use Prim.Native.Nat.{ℕ}
 use lib.Dec.{eqb}
 use lib.ListN.{length}
-use Rattle.code.specs.Sum.{sumTo, pick, only}
+use Rattle.code.specs.Sum.{sumTo, pick}
 use Rattle.code.specs.Place.{at}
 use Rattle.code.specs.Layout.{Layout, X, H, U}
-use Rattle.code.specs.Drawn.{first}
+use Rattle.code.specs.Below.{some, count, first}
 use Rattle.code.specs.Sound.{along}
 use Rattle.code.specs.Shift.{shift}
 use Rattle.shape.specs.declared.refusal.Refusal.{Refusal}
@@ -20,16 +20,6 @@ use Rattle.stripe.specs.declared.scrubbing.Finding.{Finding}
 use Rattle.stripe.specs.declared.scrubbing.Finding.the-variants as finding
 use Rattle.stripe.specs.declared.scrubbing.Scrubbed.{Scrubbed}
 use Rattle.stripe.specs.declared.scrubbing.Scrubbed.the-variants.{Counted, Refused}
-
--- t holds at some number below m
-unfoldable pub some : ℕ → (ℕ → Bool) → Bool
-some zero t = false
-some (suc m) t = pick (t m) true (some m t)
-
--- at how many numbers below m it holds
-unfoldable pub count : ℕ → (ℕ → Bool) → ℕ
-count zero t = 0
-count (suc m) t = count m t + only (t m) 1
 
 abbrev pub wrong-row : Layout → ℕ → List ℕ → ℕ → Bool
 wrong-row L e s i = some e (λ k. not (eqb (at s e k (H L i)) (sumTo (L .n) (λ j. at s e k (X L i j)))))

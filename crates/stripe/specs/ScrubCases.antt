@@ -6,12 +6,12 @@ use lib.ListN.{set}
 use Rattle.code.specs.Xor.{_⊕_}
 use Rattle.code.specs.Sum.{sumTo}
 use Rattle.code.specs.Sound.{along}
-use Rattle.code.specs.Drawn.{first}
+use Rattle.code.specs.Below.{some, count, first}
 use Rattle.code.specs.Shift.{diagonal, meets, shift}
 use Rattle.stripe.specs.declared.scrubbing.Scrubbed.{Scrubbed}
 use Rattle.stripe.specs.declared.scrubbing.Scrubbed.the-variants.{Counted}
 use Rattle.stripe.specs.declared.scrubbing.Finding.the-variants as finding
-use Rattle.stripe.specs.Scrub.{some, count, found}
+use Rattle.stripe.specs.Scrub.{found}
 use Rattle.stripe.specs.Tally.{counted-of}
 
 -- n=5, r=2, s=2, e=1

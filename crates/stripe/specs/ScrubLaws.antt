@@ -1,35 +1,23 @@
--- Laws of wrong lines: a line does not sum to zero in some byte exactly when its parity has not its value in every byte, and is_zero on the
--- listed line tells. Assumes nothing.
-use mathlib.Core.Path.{_≡_, refl, sym, ap, _∙_}
-use mathlib.Core.Bool.{Bool, true, false, not}
+-- Laws of wrong lines: a line does not sum to zero in some byte exactly when its parity has not its value in every byte. Assumes nothing.
+use mathlib.Core.Path.{_≡_, sym, ap, _∙_}
+use mathlib.Core.Bool.{not}
 use mathlib.Core.List.{List}
-use Prim.Native.Nat.{ℕ, _+_, _≤_, _<_}
+use Prim.Native.Nat.{ℕ, _+_, _<_}
 use native.Mathlib.Decide.{ℕ-discrete}
 use native.Mathlib.Nat.{zero-add}
-use native.Mathlib.Omega.{arith}
 use lib.Dec.{eqb}
-use lib.ListN.{length, take}
-use lib.Seq.{getD-take, length-take-le}
-use borrow.Author.Tests.{eq-eqb, ne-eqb, eqb-true, not-false}
+use borrow.Author.Tests.{eq-eqb, ne-eqb}
 use Rattle.code.specs.Xor.{_⊕_, ⊕-eq, ⊕-of-eq}
 use Rattle.code.specs.Sum.{sum, sumTo}
-use Rattle.code.specs.SumLaws.{clash}
+use Rattle.code.specs.BelowLaws.{some-same}
 use Rattle.code.specs.Place.{at}
-use Rattle.code.specs.Layout.{Layout, Fair, X, H, U, places, row-line, diagonal-line, line}
-use Rattle.code.specs.LayoutLaws.{row-length, diagonal-length, row-sum, diagonal-sum, line-row, line-diagonal, by-lines, layout-within}
-use Rattle.code.specs.Shift.{shift}
-use Rattle.code.specs.ShiftLaws.{shift-fair}
+use Rattle.code.specs.Layout.{Layout, Fair, X, H, U, row-line, diagonal-line, line}
+use Rattle.code.specs.LayoutLaws.{row-sum, diagonal-sum, line-row, line-diagonal}
 use Rattle.code.specs.Sound.{along}
 use Rattle.code.specs.SoundLaws.{along-meets}
-use Rattle.element.specs.Gather.{Fits, Tells}
-use Rattle.element.specs.Placed.{Offsets, TellsAt}
-use Rattle.element.specs.PlacedLaws.{offsets-fit, tells-places}
-use Rattle.shape.specs.Limits.{Limits}
-use Rattle.shape.specs.Call.{bytes-of}
-use Rattle.stripe.specs.Listed.{Listed}
-use Rattle.stripe.specs.Scrub.{some, wrong-row, wrong-diagonal}
-use Rattle.stripe.specs.Tally.{unbalanced, Tallied}
-use Rattle.stripe.specs.TestLaws.{some-same, none-some, some-none}
+use Rattle.lines.specs.Unbalanced.{unbalanced}
+use Rattle.stripe.specs.Scrub.{wrong-row, wrong-diagonal}
+use Rattle.stripe.specs.Tally.{Tallied}
 use Rattle.stripe.specs.TallyLaws.{tallied-same}
 
 -- ---- one line
@@ -71,42 +59,3 @@ module _ (L : Layout) (e : ℕ) (s : List ℕ) where
   pub tallied-diagonals : Fair L → (c f : ℕ) → Tallied (L .n) (λ v. unbalanced e s (line L (L .r + v))) c f → Tallied (L .n) (wrong-diagonal L e s) c f
   tallied-diagonals F c f =
       tallied-same (L .n) _ c f (wrong-diagonal L e s) (λ d l. ap (unbalanced e s) (line-diagonal L d) ∙ diagonal-wrong F d l)
-
--- ---- what is_zero says of a listed line
-
--- not zero exactly when some byte is not
-tells-some : (b : List ℕ) (e : ℕ) (ps : List ℕ) (z : Bool) → TellsAt b e ps z → not z ≡ some e (λ k. not (eqb (sum (at b e k) ps) 0))
-tells-some b e ps true p = sym (none-some e _ (λ k lk. ap not (eq-eqb (sum (at b e k) ps) 0 (p .yes refl k lk))))
-tells-some b e ps false p = sym (go (some e (λ k. not (eqb (sum (at b e k) ps) 0))) refl)
-  where
-    go : (x : Bool) → some e (λ k. not (eqb (sum (at b e k) ps) 0)) ≡ x → x ≡ true
-    go true q = refl
-    go false q = clash (p .no (λ k lk. eqb-true (sum (at b e k) ps) 0 (not-false (eqb (sum (at b e k) ps) 0) (some-none e _ q k lk))))
-
-line-most : (L : Layout) → L .n ≤ 32 → L .r ≤ 32 → (t : ℕ) → t < L .r + L .n → length (line L t) ≤ 33
-line-most L hn hr = by-lines L (λ t ps. length ps ≤ 33) (λ i li. omega (arith, row-length L i)) (λ d ld. omega (arith, diagonal-length L d))
-
-module _ (n r s e t m : ℕ) (os : List ℕ) (l : Limits n r s e) (lt : t < r + n) (p : Listed (shift n r s) e t os m) where
-  -- a line has at most 33 places
-  pub listed-most : m ≤ 33
-  listed-most = omega (arith, p .count, line-most (shift n r s) (l .n-high) (l .r-high) t lt)
-
-  pub listed-long : m ≡ length (take m os)
-  listed-long = let h = listed-most in sym (length-take-le m os (omega (arith, p .room)))
-
-  offsets : Offsets e (line (shift n r s) t) (take m os)
-  offsets =
-      record {
-        long = sym listed-long ∙ p .count;
-        each = λ i li. let h : i < m = omega (arith, p .count) in getD-take m os i 0 h ∙ p .each i h;
-      }
-
-  pub listed-fit : (b : List ℕ) → length b ≡ bytes-of n r e → Fits b e (take m os)
-  listed-fit b z =
-      let F = shift-fair n r s (omega (arith, l .n-low)) in
-      offsets-fit b (line (shift n r s) t) (take m os) e (places (shift n r s)) z offsets (λ v lv. layout-within (shift n r s) F .below t v lt lv)
-
-  -- its sum is not zero exactly when it is wrong
-  pub listed-wrong : (b : List ℕ) (z : Bool) → Tells b e (take m os) z → not z ≡ unbalanced e b (line (shift n r s) t)
-  unfolding unbalanced
-  listed-wrong b z h = tells-some b e _ z (tells-places b (line (shift n r s) t) (take m os) e z offsets h)

@@ -9,6 +9,9 @@ use Prim.Native.Nat.{ℕ, _<_}
 use native.Mathlib.Omega.{arith}
 use lib.Dec.{eqb}
 use borrow.Author.Tests.{eq-eqb, eqb-true, not-false}
+use Rattle.code.specs.Below.{count}
+use Rattle.code.specs.BelowLaws.{none-some, some-none}
+use Rattle.code.specs.CountLaws.{zero-count, count-zero}
 use Rattle.code.specs.Place.{at}
 use Rattle.code.specs.Layout.{Layout, Fair, X, H, U}
 use Rattle.code.specs.Sound.{Sound}
@@ -17,9 +20,8 @@ use Rattle.shape.specs.CallLaws.{named-same}
 use Rattle.stripe.specs.declared.scrubbing.Finding.the-variants as finding
 use Rattle.stripe.specs.declared.scrubbing.Scrubbed.{Scrubbed}
 use Rattle.stripe.specs.declared.scrubbing.Scrubbed.the-variants.{Counted, Refused}
-use Rattle.stripe.specs.Scrub.{count, wrong-row, wrong-diagonal, found, Scrubs}
+use Rattle.stripe.specs.Scrub.{wrong-row, wrong-diagonal, found, Scrubs}
 use Rattle.stripe.specs.Tally.{counted-of}
-use Rattle.stripe.specs.TestLaws.{none-some, some-none, zero-count, count-zero}
 use Rattle.stripe.specs.FoundLaws.{found-sound, found-U, found-H, found-element, sound-counts}
 use Rattle.stripe.specs.ScrubAnswers.{counted-is}
 use Rattle.stripe.specs.LinesOf.{X-row, X-diagonal, H-row, H-diagonal, U-row, U-diagonal}

@@ -8,6 +8,7 @@ use native.Mathlib.Omega.{arith}
 use lib.ListN.{length, getD, set, take, drop}
 use Rattle.code.specs.Xor.{_⊕_}
 use Rattle.code.specs.Sum.{sumTo, table}
+use Rattle.code.specs.Below.{some, count}
 use Rattle.code.specs.Sound.{along}
 use Rattle.code.specs.Shift.{diagonal}
 use Rattle.code.specs.Bound.{q, pr, searched}
@@ -20,7 +21,7 @@ use Rattle.stripe.specs.declared.scrubbing.Scrubbed.the-variants as scru
 use Rattle.stripe.specs.Encode.{Encodes}
 use Rattle.stripe.specs.Write.{written-at, written-over, written, Writes}
 use Rattle.stripe.specs.Read.{read-number, read-part}
-use Rattle.stripe.specs.Scrub.{some, count, Scrubs}
+use Rattle.stripe.specs.Scrub.{Scrubs}
 use Rattle.stripe.specs.ScrubCases.{case-b}
 
 -- no refusal has the number 0

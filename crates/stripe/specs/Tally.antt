@@ -1,25 +1,19 @@
--- What scrub learns on its way: whether a line is wrong, how many of a run of lines are and the first that is, and what that finds.
+-- What scrub learns on its way: how many of a run of lines are wrong and the first that is, and what that finds.
 -- Assumes nothing.
--- unbalanced e s ps == the places ps do not sum to zero in some byte    counted-of L e s == what scrub answers on a buffer of the right size
+-- counted-of L e s == what scrub answers on a buffer of the right size
 use mathlib.Core.Path.{_≡_}
-use mathlib.Core.Bool.{Bool, not}
+use mathlib.Core.Bool.{Bool}
 use mathlib.Core.List.{List}
 use Prim.Native.Nat.{ℕ}
-use lib.Dec.{eqb}
-use Rattle.code.specs.Sum.{sum}
-use Rattle.code.specs.Place.{at}
 use Rattle.code.specs.Layout.{Layout}
-use Rattle.code.specs.Drawn.{first}
+use Rattle.code.specs.Below.{count, first}
 use Rattle.shape.specs.declared.Judged.{Judged}
 use Rattle.shape.specs.declared.Judged.the-variants as judged
 use Rattle.stripe.specs.declared.scrubbing.Finding.{Finding}
 use Rattle.stripe.specs.declared.scrubbing.Finding.the-variants as finding
 use Rattle.stripe.specs.declared.scrubbing.Scrubbed.{Scrubbed}
 use Rattle.stripe.specs.declared.scrubbing.Scrubbed.the-variants.{Counted, Refused}
-use Rattle.stripe.specs.Scrub.{some, count, wrong-row, wrong-diagonal, found}
-
-unfoldable pub unbalanced : ℕ → List ℕ → List ℕ → Bool
-unbalanced e s ps = some e (λ k. not (eqb (sum (at s e k) ps) 0))
+use Rattle.stripe.specs.Scrub.{wrong-row, wrong-diagonal, found}
 
 -- c of the tests 0 .. m - 1 hold, the first of them at f; f is m where none does
 pub record Tallied (m : ℕ) (t : ℕ → Bool) (c f : ℕ) : Type 0 where

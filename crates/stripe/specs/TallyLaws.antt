@@ -7,9 +7,9 @@ use native.Mathlib.Decide.{ℕ-discrete}
 use native.Mathlib.Numerals.{add-one}
 use native.Mathlib.Omega.{arith}
 use Rattle.code.specs.Sum.{only}
-use Rattle.code.specs.Drawn.{first}
-use Rattle.stripe.specs.Scrub.{count}
-use Rattle.stripe.specs.TestLaws.{count-same, zero-count, count-one, first-same, first-at, first-or-none}
+use Rattle.code.specs.Below.{count, first}
+use Rattle.code.specs.BelowLaws.{first-same, first-at, first-or-none}
+use Rattle.code.specs.CountLaws.{count-same, zero-count, count-one}
 use Rattle.stripe.specs.Tally.{Tallied}
 
 -- ---- tallies

@@ -1,15 +1,12 @@
 // The calls on a stripe: encode, write, read, scrub. Each takes any numbers and any buffer, and checks for itself, in 01's order.
 mod encoding;
-mod lines;
 mod place;
 mod reading;
 mod scrubbing;
 mod writing;
 
-pub use lines::line;
 pub use scrubbing::Finding;
 pub use scrubbing::Scrubbed;
-pub use scrubbing::wrong_line;
 use shape::Answer;
 use shape::Judged;
 use shape::Refusal;

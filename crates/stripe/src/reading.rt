@@ -1,5 +1,5 @@
 // Read: an element as that part of the lent stripe.
-use crate::place::place;
+use lines::place;
 use shape::Shape;
 ghost use mathlib.Core.Path.{_≡_};
 ghost use Prim.Native.Nat.{_*_, _<_};

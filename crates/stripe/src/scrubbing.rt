@@ -1,5 +1,5 @@
 // Scrub: which rows and diagonals of a stripe have a wrong parity.
-use crate::lines;
+use lines::wrong_line;
 use shape::Judged;
 use shape::Refusal;
 use shape::Shape;
@@ -10,7 +10,8 @@ ghost use Rattle.code.specs.Layout.{line};
 ghost use Rattle.code.specs.Shift.{shift};
 ghost use Rattle.shape.specs.Limits.{Limits};
 ghost use Rattle.shape.specs.Call.{bytes-of};
-ghost use Rattle.stripe.specs.Tally.{unbalanced, Tallied, FoundBy, counted-of, uncounted};
+ghost use Rattle.lines.specs.Unbalanced.{unbalanced};
+ghost use Rattle.stripe.specs.Tally.{Tallied, FoundBy, counted-of, uncounted};
 
 pub enum Finding {
     Sound,
@@ -33,19 +34,6 @@ pub enum Scrubbed {
 struct Tally {
     count: usize,
     first: usize,
-}
-
-// Whether line t, the rows and then the diagonals, does not sum to zero in some byte.
-pub fn wrong_line(shape: Shape, stripe: &[u8], t: usize) -> bool
-    requires { ⌜ Limits (shape .n) (shape .r) (shape .s) (shape .e) ⌝ }
-    requires size { ⌜ length (now stripe) ≡ bytes-of (shape .n) (shape .r) (shape .e) ⌝ }
-    requires line { ⌜ t < shape .r + shape .n ⌝ }
-    ensures { λ w. ⌜ w ≡ unbalanced (shape .e) (now (stripe .entry)) (line (shift (shape .n) (shape .r) (shape .s)) t) ⌝ }
-{
-    let mut offs = [0usize; 33];
-    let m = lines::line(shape, t, &mut offs);
-    let e = shape.e;
-    !element::is_zero(stripe, e, &offs[..m])
 }
 
 // The wrong ones among the m lines from line `from` on. They are read from the last down, so that the last one found is the first.

@@ -1,5 +1,5 @@
 // Short write: a run of bytes of one data element, with H of its row and U of its diagonal.
-use crate::place::place;
+use lines::place;
 use shape::Shape;
 ghost use mathlib.Core.Path.{_≡_};
 ghost use Prim.Native.Nat.{_+_, _-_, _*_, _≤_, _<_};

@@ -14,7 +14,6 @@ use Rattle.code.specs.LayoutLaws.{pair-left, pair-right, pair-no, pair-yes}
 use Rattle.code.specs.Drawn.{cell}
 use Rattle.code.specs.Live.{Line, row, diagonal, Lone}
 use Rattle.code.specs.LiveLaws.{known-of, Unknown, two-unknown}
-use Rattle.walker.specs.declared.find.Found.{Found}
 use Rattle.walker.specs.declared.find.Found.the-variants.{At, Nothing}
 use Rattle.walker.specs.Flags.{Marked, unset, is-set}
 use Rattle.walker.specs.Search.{OpenAt, Passed, NextAt, NextOn, FoundOn}

@@ -5,6 +5,7 @@ use Prim.Native.Nat.{_+_, _-_}
 use mathlib.Core.Path.{_∙_}
 use Rattle.code.specs.Shift.{shift}
 use Rattle.code.specs.ShiftLaws.{shift-fair}
+use Rattle.stripe.specs.ParityLaws.{last-within}
 use Rattle.stripe.specs.EncodeLaws.{EncodedTo, encoded-none, encoded-more, encoded-all}
 use Rattle.stripe.proofs.encoding.encode_shape.Statement.{statement}
 use Rattle.stripe.proofs.encoding.encode_shape.Tie as tie
@@ -24,10 +25,13 @@ sub-last c = search needs
 loop-holds : tie.Need-loop-holds Inv-loop μ-loop
 loop-holds c = encoded-none _ _ _
 
-set-parity-requires : tie.Need-set-parity-requires Inv-loop μ-loop
-set-parity-requires c κs =
-    let start = c .before .before .before .before .before in
-    (start .pre .0, (omega arith, c .before .before .loop .inv .size ∙ start .pre .1))
+parity-in-requires : tie.Need-parity-in-requires Inv-loop μ-loop
+parity-in-requires c κs = search needs
+
+build-requires : tie.Need-build-requires Inv-loop μ-loop
+build-requires c κs =
+    let start = c .before .before .before .before .before .before in
+    (start .pre .0, ((omega arith, last-within _ _ _ (omega arith) (c .before .parity-in .ensures)), c .before .before .before .loop .inv .size ∙ start .pre .1))
 
 add-t : tie.Need-add-t Inv-loop μ-loop
 add-t c = search needs
@@ -37,8 +41,8 @@ loop-less c = search needs
 
 loop-again : tie.Need-loop-again Inv-loop μ-loop
 loop-again c =
-    let a = c .before .before .before .before .before .before .before .before .args .shape in
-    encoded-more _ (shift-fair (a .n) (a .r) (a .s) (omega arith)) _ _ _ _ (c .before .before .before .before .before .loop .inv) _ (omega arith) (c .before .before .set-parity .ensures)
+    let a = c .before .before .before .before .before .before .before .before .before .args .shape in
+    encoded-more _ (shift-fair (a .n) (a .r) (a .s) (omega arith)) _ _ _ _ (c .before .before .before .before .before .before .loop .inv) _ _ (omega arith) (c .before .before .before .before .parity-in .ensures) (c .before .before .build .ensures)
 
 same-length : tie.Need-same-length Inv-loop μ-loop
 same-length c = c .before .loop .inv .size
@@ -57,7 +61,8 @@ encode-shape-spec =
     add-last
     sub-last
     loop-holds
-    set-parity-requires
+    parity-in-requires
+    build-requires
     add-t
     loop-less
     loop-again

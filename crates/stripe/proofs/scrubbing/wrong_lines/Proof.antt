@@ -5,7 +5,7 @@ use Prim.Native.Nat.{_+_}
 use mathlib.Core.Path.{sym, _∙_}
 use Rattle.code.specs.Layout.{line}
 use Rattle.code.specs.Shift.{shift}
-use Rattle.stripe.specs.Tally.{unbalanced}
+use Rattle.lines.specs.Unbalanced.{unbalanced}
 use Rattle.stripe.specs.TallyLaws.{Tallying, tallying-none, tallying-yes, tallying-no, tallying-all}
 use Rattle.stripe.proofs.scrubbing.wrong_lines.Statement.{statement}
 use Rattle.stripe.proofs.scrubbing.wrong_lines.Tie as tie

@@ -1,0 +1,25 @@
+// An element built from its line: it becomes the sum of the others.
+use crate::listing::line;
+use shape::Shape;
+ghost use mathlib.Core.Path.{_≡_};
+ghost use Prim.Native.Nat.{_+_, _*_, _<_};
+ghost use lib.ListN.{length};
+ghost use Rattle.code.specs.Layout.{line, places};
+ghost use Rattle.code.specs.Shift.{shift};
+ghost use Rattle.shape.specs.Limits.{Limits};
+ghost use Rattle.lines.specs.Others.{Builds};
+
+// Place v of line t becomes the sum of the others; the last one takes its room in the list.
+pub fn build(shape: Shape, t: usize, v: usize, stripe: &mut [u8])
+    requires { ⌜ Limits (shape .n) (shape .r) (shape .s) (shape .e) ⌝ }
+    requires line { ⌜ (t < shape .r + shape .n) × (v < length (line (shift (shape .n) (shape .r) (shape .s)) t)) ⌝ }
+    requires size { ⌜ length (now stripe) ≡ shape .e * places (shift (shape .n) (shape .r) (shape .s)) ⌝ }
+    ensures { λ _. ⌜ Builds (shift (shape .n) (shape .r) (shape .s)) (shape .e) t v (now (stripe .entry)) (now (stripe .exit)) ⌝ }
+{
+    let mut offs = [0usize; 33];
+    let m = line(shape, t, &mut offs);
+    let e = shape.e;
+    let o = offs[v];
+    offs[v] = offs[m - 1];
+    element::gather(stripe, e, o, &offs[..m - 1]);
+}
