@@ -4,8 +4,10 @@ use mathlib.Core.List.{List}
 use Prim.Native.Nat.{ℕ, _+_, _*_, _≤_}
 use native.Mathlib.Nat.{mul-le-mul}
 use native.Mathlib.Omega.{arith}
+use lib.Dec.{ltb}
 use lib.ListN.{length}
 use Rattle.code.specs.Sum.{pick}
+use Rattle.code.specs.Below.{count}
 use Rattle.code.specs.Layout.{X}
 use Rattle.code.specs.Shift.{shift}
 use Rattle.shape.specs.declared.limits.Shape.{Shape}
@@ -26,6 +28,8 @@ use Rattle.stripe.specs.Encode.{Encodes}
 use Rattle.stripe.specs.Write.{place-outside, Writes}
 use Rattle.stripe.specs.Read.{read-number}
 use Rattle.stripe.specs.Scrub.{Scrubs}
+use Rattle.shape.specs.Mask.{lost-in, above-test}
+use Rattle.rebuild.specs.Rebuild.{last-of, Rebuilds}
 use Rattle.stripe.specs.WriteNumber.{Accepted, number-accepted}
 use Rattle.fiddlefern.specs.Packed.{refusal-packed, judged-packed, answer-packed, counted-packed, scrubbed-packed, SmallAnswer, JudgeAnswer, ReadAnswer, ScrubAnswer}
 
@@ -42,7 +46,7 @@ module _ (n r s e : ℕ) (x : Judged) (j : Judges n r s e x) where
   pub answer-refused : (y : Refusal) → x ≡ Refused y → (k : ℕ) → k ≡ refusal-packed y → JudgeAnswer n r s e k
   answer-refused y q k z = record { judged = x; judges = j; packed = z ∙ sym (ap judged-packed q) }
 
--- ---- encode and write
+-- ---- encode, write and rebuild
 
 answer-small : (n r s e len last : ℕ) (x : Answer) → Answered n r s (call-number n r s e len last) x → SmallAnswer x
 answer-small n r s e len last x a =
@@ -54,6 +58,11 @@ encode-small n r s e before after x a = answer-small n r s e (length before) 0 x
 pub write-small : (n r s e i j o : ℕ) (run before after : List ℕ) (x : Answer) → Writes n r s e i j o run before after x → SmallAnswer x
 write-small n r s e i j o run before after x a =
     answer-small n r s e (length before) (pick (place-outside n r e i j o (length run)) 9 0) x (a .answer)
+
+pub rebuild-small : (n r s e mask : ℕ) (before after : List ℕ) (x : Answer) → Rebuilds n r s e mask before after x → SmallAnswer x
+rebuild-small n r s e mask before after x a =
+    answer-small n r s e (length before)
+    (pick (above-test mask n) 7 (pick (ltb 2 (count 64 (lost-in mask))) 8 (last-of x))) x (a .answer)
 
 -- ---- read
 

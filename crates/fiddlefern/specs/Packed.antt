@@ -22,6 +22,7 @@ use Rattle.stripe.specs.Encode.{Encodes}
 use Rattle.stripe.specs.Write.{Writes}
 use Rattle.stripe.specs.Read.{read-number}
 use Rattle.stripe.specs.Scrub.{Scrubs}
+use Rattle.rebuild.specs.Rebuild.{Rebuilds}
 
 abbrev pub refusal-packed : Refusal → ℕ
 refusal-packed x = number-of x + lower-of x * 256 + upper-of x * 65536
@@ -30,7 +31,7 @@ abbrev pub judged-packed : Judged → ℕ
 judged-packed (Good h b) = b * 4294967296
 judged-packed (Refused x) = refusal-packed x
 
--- encode and write, and read with v the offset of the element: what comes with 0
+-- encode, write and rebuild, and read with v the offset of the element: what comes with 0
 abbrev pub answer-packed : ℕ → Answer → ℕ
 answer-packed v answer.Done = v * 4294967296
 answer-packed v (answer.Refused x) = refusal-packed x
@@ -90,3 +91,8 @@ pub record ScrubAnswer (n r s e : ℕ) (b : List ℕ) (k : ℕ) : Type 0 where
   pub scrubbed : Scrubbed
   pub scrubs : Scrubs n r s e b scrubbed
   pub packed : k ≡ scrubbed-packed scrubbed
+
+pub record RebuildAnswer (n r s e mask : ℕ) (before after : List ℕ) (k : ℕ) : Type 0 where
+  pub answer : Answer
+  pub rebuilds : Rebuilds n r s e mask before after answer
+  pub packed : k ≡ answer-packed 0 answer

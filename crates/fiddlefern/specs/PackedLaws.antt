@@ -14,8 +14,9 @@ use Rattle.stripe.specs.EncodeDetermined.{encode-determined}
 use Rattle.stripe.specs.WriteLaws.{write-determined}
 use Rattle.stripe.specs.ReadLaws.{read-check-determined}
 use Rattle.stripe.specs.ScrubTheorems.{scrub-determined}
+use Rattle.rebuild.specs.RebuildDetermined.{rebuild-determined}
 use Rattle.fiddlefern.specs.ScrubSmall.{finding-most}
-use Rattle.fiddlefern.specs.Packed.{refusal-packed, judged-packed, answer-packed, finding-values, counted-packed, scrubbed-packed, SmallFinding, JudgeAnswer, EncodeAnswer, WriteAnswer, ReadAnswer, ScrubAnswer}
+use Rattle.fiddlefern.specs.Packed.{refusal-packed, judged-packed, answer-packed, finding-values, counted-packed, scrubbed-packed, SmallFinding, JudgeAnswer, EncodeAnswer, WriteAnswer, ReadAnswer, ScrubAnswer, RebuildAnswer}
 
 -- ---- each part stands in bytes of its own
 
@@ -85,3 +86,9 @@ module _ (n r s e : ℕ) where
     pub scrub-answer-determined : (k m : ℕ) → ScrubAnswer n r s e b k → ScrubAnswer n r s e b m → k ≡ m
     scrub-answer-determined k m x y =
         x .packed ∙ ap scrubbed-packed (scrub-determined n r s e b (x .scrubbed) (y .scrubbed) (x .scrubs) (y .scrubs)) ∙ sym (y .packed)
+
+    pub rebuild-answer-determined : (mask : ℕ) (a c : List ℕ) (k m : ℕ) → RebuildAnswer n r s e mask b a k → RebuildAnswer n r s e mask b c m
+        → (k ≡ m) × (a ≡ c)
+    rebuild-answer-determined mask a c k m x y =
+        let d = rebuild-determined n r s e mask b a c (x .answer) (y .answer) (x .rebuilds) (y .rebuilds) in
+        (x .packed ∙ ap (answer-packed 0) (d .0) ∙ sym (y .packed), d .1)

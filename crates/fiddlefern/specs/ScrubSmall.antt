@@ -2,13 +2,15 @@
 use mathlib.Core.Path.{_≡_, sym, ap, _∙_, subst}
 use mathlib.Core.Bool.{Bool, true, false}
 use mathlib.Core.List.{List}
-use Prim.Native.Nat.{ℕ, zero, suc, _+_, _-_, _≤_, _<_}
+use Prim.Native.Nat.{ℕ, _+_, _-_, _≤_, _<_}
 use native.Mathlib.Nat.{mod-lt}
 use native.Mathlib.Omega.{arith}
 use lib.Dec.{eqb}
 use lib.ListN.{length}
-use Rattle.code.specs.Sum.{pick, only}
-use Rattle.code.specs.Drawn.{first}
+use Rattle.code.specs.Sum.{pick}
+use Rattle.code.specs.Below.{count, first}
+use Rattle.code.specs.BelowLaws.{first-most}
+use Rattle.code.specs.CountLaws.{count-most}
 use Rattle.code.specs.Shift.{shift, meets}
 use Rattle.shape.specs.declared.refusal.Refusal.{Refusal}
 use Rattle.shape.specs.Refusal.{lower-of, upper-of}
@@ -18,27 +20,9 @@ use Rattle.stripe.specs.declared.scrubbing.Finding.{Finding}
 use Rattle.stripe.specs.declared.scrubbing.Finding.the-variants as finding
 use Rattle.stripe.specs.declared.scrubbing.Scrubbed.{Scrubbed}
 use Rattle.stripe.specs.declared.scrubbing.Scrubbed.the-variants.{Counted, Refused}
-use Rattle.stripe.specs.Scrub.{count, wrong-row, wrong-diagonal, found, scrubbed-number, Scrubs}
+use Rattle.stripe.specs.Scrub.{wrong-row, wrong-diagonal, found, scrubbed-number, Scrubs}
 use Rattle.stripe.specs.OpenedLaws.{call-zero}
 use Rattle.fiddlefern.specs.Packed.{finding-values, SmallFinding}
-
-only-most : (t : Bool) → only t 1 ≤ 1
-only-most true = omega arith
-only-most false = omega arith
-
-count-most : (m : ℕ) (t : ℕ → Bool) → count m t ≤ m
-unfolding count
-count-most zero t = omega arith
-count-most (suc m) t = let h = count-most m t in let o = only-most (t m) in omega arith
-
-next-most : (x : Bool) (k m : ℕ) → k ≤ m → pick x 0 (suc k) ≤ suc m
-next-most true k m h = omega arith
-next-most false k m h = omega arith
-
-first-most : (m : ℕ) (t : ℕ → Bool) → first m t ≤ m
-unfolding first
-first-most zero t = omega arith
-first-most (suc m) t = next-most (t 0) _ m (first-most m (λ j. t (suc j)))
 
 -- a finding's number
 pub finding-most : (f : Finding) → finding-values f .0 ≤ 4

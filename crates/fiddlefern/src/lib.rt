@@ -7,7 +7,7 @@ use packing::packed_count;
 use shape::Answer;
 use shape::Judged;
 use stripe::Scrubbed;
-ghost use Rattle.fiddlefern.specs.Packed.{JudgeAnswer, EncodeAnswer, WriteAnswer, ReadAnswer, ScrubAnswer};
+ghost use Rattle.fiddlefern.specs.Packed.{JudgeAnswer, EncodeAnswer, WriteAnswer, ReadAnswer, ScrubAnswer, RebuildAnswer};
 
 // Judges a shape: 0 with the stripe's size in the upper 32 bits, or the refusal.
 #[no_mangle]
@@ -80,4 +80,19 @@ pub extern "C" fn fiddlefern_scrub(n: usize, r: usize, s: usize, e: usize, strip
         Scrubbed::Counted(a, b, f) => packed_count(a, b, f),
         Scrubbed::Refused(x) => packed(x),
     }
+}
+
+// Gives the strips of the mask back from the others: 0, or the refusal.
+#[no_mangle]
+pub extern "C" fn fiddlefern_rebuild(
+    n: usize,
+    r: usize,
+    s: usize,
+    e: usize,
+    stripe: &mut [u8],
+    mask: u64,
+) -> u64
+    ensures { λ k. ⌜ RebuildAnswer n r s e mask (now (stripe .entry)) (now (stripe .exit)) k ⌝ }
+{
+    packed_answer(rebuild::rebuild(n, r, s, e, stripe, mask))
 }

@@ -1,10 +1,10 @@
 -- How rebuild meets its contract, from the opened buffer on. Assumes nothing.
-use mathlib.Core.Path.{_≡_, refl, sym, ap, _∙_, subst}
+use mathlib.Core.Path.{_≡_, sym, ap, _∙_, subst}
 use mathlib.Core.Bool.{Bool, true, false}
 use mathlib.Core.List.{List}
-use native.Mathlib.Omega.{arith}
 use Prim.Native.Nat.{ℕ, _*_, _≤_, _<_}
 use lib.ListN.{length}
+use Rattle.code.specs.Below.{count}
 use Rattle.code.specs.Bound.{Good}
 use Rattle.code.specs.Layout.{places}
 use Rattle.code.specs.Shift.{shift}
@@ -16,7 +16,7 @@ use Rattle.shape.specs.declared.refusal.Answer.the-variants.{Done, Refused}
 use Rattle.shape.specs.declared.Judged.{Judged}
 use Rattle.shape.specs.declared.Judged.the-variants as judged
 use Rattle.shape.specs.Limits.{Limits}
-use Rattle.shape.specs.Mask.{lost-in, count-below, above-test}
+use Rattle.shape.specs.Mask.{lost-in, above-test}
 use Rattle.shape.specs.Judge.{judged-answer}
 use Rattle.stripe.specs.Opened.{Opens}
 use Rattle.rebuild.specs.Rebuild.{Rebuilds}
@@ -37,25 +37,22 @@ module _ (n r s e mask : ℕ) (b : List ℕ) (x : Judged) (o : Opens n r s e (le
     to-shape : (P : ℕ → ℕ → ℕ → ℕ → Type 0) → P n r s e → P (h .n) (h .r) (h .s) (h .e)
     to-shape P p = subst (λ (g : Shape). P (g .n) (g .r) (g .s) (g .e)) (sym (o .opened h c q .shape)) p
 
-    pub n-small : n ≤ 63
-    n-small = omega (arith, o .opened h c q .limits .n-high)
-
     -- lines 7 and 8
     pub mask-refused : above-test mask n ≡ true → Rebuilds n r s e mask b b (Refused Mask)
     mask-refused t = rebuilds-above n r s e mask b (o .opened h c q .limits) (o .opened h c q .good) (o .opened h c q .sized) t
 
-    pub many-refused : above-test mask n ≡ false → 2 < count-below 64 (lost-in mask) → Rebuilds n r s e mask b b (Refused Many)
+    pub many-refused : above-test mask n ≡ false → 2 < count 64 (lost-in mask) → Rebuilds n r s e mask b b (Refused Many)
     many-refused t m = rebuilds-many n r s e mask b (o .opened h c q .limits) (o .opened h c q .good) (o .opened h c q .sized) t m
 
     -- what mend asks, and what it says of the call
-    module _ (t : above-test mask n ≡ false) (few : count-below 64 (lost-in mask) ≤ 2) where
+    module _ (t : above-test mask n ≡ false) (few : count 64 (lost-in mask) ≤ 2) where
       accepted : Accepted n r s e (length b) mask
       accepted = record { limits = o .opened h c q .limits; good = o .opened h c q .good; sized = o .opened h c q .sized; strips = t; few = few }
 
       pub shape-good : Limits (h .n) (h .r) (h .s) (h .e) × Good (h .n) (h .r) (h .s)
       shape-good = (to-shape (λ n r s e. Limits n r s e) (o .opened h c q .limits), to-shape (λ n r s e. Good n r s) (o .opened h c q .good))
 
-      pub shape-lost : (above-test mask (h .n) ≡ false) × (count-below 64 (lost-in mask) ≤ 2)
+      pub shape-lost : (above-test mask (h .n) ≡ false) × (count 64 (lost-in mask) ≤ 2)
       shape-lost = (to-shape (λ n r s e. above-test mask n ≡ false) t, few)
 
       pub shape-size : length b ≡ h .e * places (shift (h .n) (h .r) (h .s))

@@ -11,6 +11,7 @@ use lib.Dec.{eqb}
 use lib.Pow.{pow-pos, pow-mono}
 use lib.Count.{trailingZeros, leadingZeros}
 use borrow.Author.Tests.{leb-false, lt-leb}
+use Rattle.code.specs.CountLaws.{zero-count}
 use Rattle.code.specs.SumLaws.{clash}
 use Rattle.code.specs.Code.{Decided}
 use Rattle.code.specs.CodeLaws.{Fewer, decided-fewer}
@@ -21,7 +22,7 @@ use Rattle.code.specs.Bound.{Good}
 use Rattle.code.specs.Exact.{good-decided}
 use Rattle.shape.specs.Limits.{Limits}
 use Rattle.shape.specs.Mask.{lost-in, above-test, FirstLost, LastLost}
-use Rattle.shape.specs.LostLaws.{none-count, first-last, pair-lost}
+use Rattle.shape.specs.LostLaws.{first-last, pair-lost}
 use Rattle.shape.specs.MaskEnds.{trailing-first, leading-last, above-last}
 use Rattle.shape.specs.Call.{bytes-of}
 use Rattle.rebuild.specs.RebuildNumber.{Accepted}
@@ -40,7 +41,7 @@ empty-accepted n r s e len l g q =
       good = g;
       sized = q;
       strips = lt-leb (2 ^ (n + 1)) 0 (pow-pos (n + 1));
-      few = omega (arith, none-count (lost-in 0) 64 (λ j h. empty-lost j));
+      few = omega (arith, zero-count 64 (lost-in 0) (λ j h. empty-lost j));
     }
 
 -- ---- pairs

@@ -1,8 +1,8 @@
 -- How mend meets its contract: two strips cleared are a pair cleared, a pair is the lost set of its mask, and where nothing is lost nothing
--- changes. Assumes nothing.
+-- changes. And that contract leaves nothing open. Assumes nothing.
 use Prim.Native.Nat.{ℕ, _<_}
-use mathlib.Core.Path.{_≡_, sym, ap, _∙_, subst}
-use mathlib.Core.Logic.{_≢_, _⊎_, inl, inr}
+use mathlib.Core.Path.{_≡_, refl, sym, _∙_}
+use mathlib.Core.Logic.{_⊎_, inl, inr}
 use mathlib.Core.Bool.{Bool, true, false}
 use mathlib.Core.List.{List}
 use native.Mathlib.Decide.{ℕ-discrete}
@@ -12,8 +12,13 @@ use Rattle.code.specs.Layout.{Layout, Fair, height, places, pair}
 use Rattle.code.specs.LayoutLaws.{pair-yes, pair-kept}
 use Rattle.code.specs.SumLaws.{clash}
 use Rattle.code.specs.Sound.{Stripe}
-use Rattle.rebuild.specs.Rebuild.{Kept, Agreeable, Mended, Cleared}
-use Rattle.rebuild.specs.RebuildLaws.{kept-refl}
+use Rattle.code.specs.Shift.{shift}
+use Rattle.shape.specs.declared.refusal.Refusal.the-variants.{NoSound}
+use Rattle.shape.specs.declared.refusal.Answer.the-variants.{Done, Refused}
+use Rattle.shape.specs.Mask.{lost-in}
+use Rattle.rebuild.specs.Rebuild.{Kept, Agreeable}
+use Rattle.rebuild.specs.RebuildNumber.{Accepted}
+use Rattle.rebuild.specs.RebuildLaws.{kept-refl, mended-agreeable, is-mended, is-cleared, ended-same}
 use Rattle.rebuild.specs.Clear.{Clears}
 use Rattle.rebuild.specs.Testing.{Tests}
 use Rattle.rebuild.specs.PlanRun.{Mends, no-run, ran-mended, ran-cleared}
@@ -74,3 +79,15 @@ mends-none L F e lost none s used bytes clean x y =
           ran-cleared L F e lost s s used (no-run L e lost none s used clean) (f .t) (f .byte) (f .is-line) (f .in-element) (f .wrong) s (kept-refl L e lost s)
           (λ p i lp li o. clash (sym (none (strip-of (height L) p)) ∙ o));
     }
+
+-- ---- what is left open
+
+-- nothing: on what mend requires, the answer and every byte are determined
+pub mends-determined : (n r s e mask : ℕ) (b a c : List ℕ) (x y : Bool) → Accepted n r s e (length b) mask
+    → Mends (shift n r s) e (lost-in mask) b a x → Mends (shift n r s) e (lost-in mask) b c y → (x ≡ y) × (a ≡ c)
+mends-determined n r s e mask b a c true true k p q =
+    (refl, ended-same n r s e mask b k a c Done Done (is-mended (p .mended refl)) (is-mended (q .mended refl)) .1)
+mends-determined n r s e mask b a c true false k p q = absurd (q .cleared refl .none (mended-agreeable (shift n r s) e (lost-in mask) b a (p .mended refl)))
+mends-determined n r s e mask b a c false true k p q = absurd (p .cleared refl .none (mended-agreeable (shift n r s) e (lost-in mask) b c (q .mended refl)))
+mends-determined n r s e mask b a c false false k p q =
+    (refl, ended-same n r s e mask b k a c (Refused NoSound) (Refused NoSound) (is-cleared (p .cleared refl)) (is-cleared (q .cleared refl)) .1)

@@ -12,7 +12,7 @@ use Rattle.code.specs.Layout.{Layout, Fair, height, places, line}
 use Rattle.code.specs.Plan.{Step}
 use Rattle.code.specs.Sound.{Stripe}
 use Rattle.rebuild.specs.Rebuild.{Kept, Mended, Cleared}
-use Rattle.rebuild.specs.RunTo.{RunTo, SurplusZero}
+use Rattle.rebuild.specs.RunTo.{RunTo}
 use Rattle.rebuild.specs.RunLaws.{run-none, run-kept, run-mended, run-cleared}
 use Rattle.rebuild.specs.RunBytes.{run-stripe}
 use Rattle.rebuild.specs.WholePlan.{Planned, nothing-planned}

@@ -9,6 +9,7 @@ use Prim.Native.Nat.{ℕ, _<_}
 use lib.Dec.{ltb}
 use lib.ListN.{length}
 use Rattle.code.specs.Sum.{pick}
+use Rattle.code.specs.Below.{count}
 use Rattle.code.specs.Code.{Agree}
 use Rattle.code.specs.Place.{strip-of, at}
 use Rattle.code.specs.Layout.{Layout, height, places, code}
@@ -18,13 +19,18 @@ use Rattle.shape.specs.declared.refusal.Refusal.{Refusal}
 use Rattle.shape.specs.declared.refusal.Refusal.the-variants.{NoSound}
 use Rattle.shape.specs.declared.refusal.Answer.{Answer}
 use Rattle.shape.specs.declared.refusal.Answer.the-variants.{Done, Refused}
-use Rattle.shape.specs.Mask.{lost-in, count-below, above-test}
+use Rattle.shape.specs.Mask.{lost-in, above-test}
 use Rattle.shape.specs.Call.{call-number, Answered}
 
 -- line 7: the mask has a one above bit n; line 8: it has more than two ones
 abbrev pub rebuild-number : ℕ → ℕ → ℕ → ℕ → ℕ → ℕ → ℕ → ℕ
 rebuild-number n r s e len mask last =
-    call-number n r s e len (pick (above-test mask n) 7 (pick (ltb 2 (count-below 64 (lost-in mask))) 8 last))
+    call-number n r s e len (pick (above-test mask n) 7 (pick (ltb 2 (count 64 (lost-in mask))) 8 last))
+
+-- what comes last, where none of 1 to 8 holds: 0 where it is done, 10 where it is not; done and none below say when
+abbrev pub last-of : Answer → ℕ
+last-of Done = 0
+last-of (Refused y) = 10
 
 -- after has the length and every survivor of before
 pub record Kept (L : Layout) (e : ℕ) (lost : ℕ → Bool) (before after : List ℕ) : Type 0 where
@@ -50,9 +56,7 @@ pub record Cleared (L : Layout) (e : ℕ) (lost : ℕ → Bool) (before after : 
 
 -- rebuild on the buffer before leaves after and answers x: 0 to 8, or 10
 pub record Rebuilds (n r s e mask : ℕ) (before after : List ℕ) (x : Answer) : Type 0 where
-  -- where none of 1 to 8 holds the number is 0 or 10, and done and none say which
-  pub mended : Bool
-  pub answer : Answered n r s (rebuild-number n r s e (length before) mask (pick mended 0 10)) x
+  pub answer : Answered n r s (rebuild-number n r s e (length before) mask (last-of x)) x
   pub done : x ≡ Done → Mended (shift n r s) e (lost-in mask) before after
   pub none : x ≡ Refused NoSound → Cleared (shift n r s) e (lost-in mask) before after
   pub refused : (y : Refusal) → x ≡ Refused y → y ≢ NoSound → after ≡ before

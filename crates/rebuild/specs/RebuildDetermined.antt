@@ -7,14 +7,13 @@ use mathlib.Core.List.{List}
 use Prim.Native.Nat.{ℕ, _≤_}
 use native.Mathlib.Omega.{arith}
 use lib.ListN.{length}
-use Rattle.code.specs.Sum.{pick}
 use Rattle.code.specs.SumLaws.{clash}
 use Rattle.code.specs.Place.{strip-of}
 use Rattle.code.specs.Layout.{height}
 use Rattle.code.specs.Sound.{SoundStripe}
 use Rattle.code.specs.Shift.{shift}
 use Rattle.code.specs.Bound.{Good}
-use Rattle.shape.specs.declared.refusal.Refusal.the-variants.{NoSound}
+use Rattle.shape.specs.declared.refusal.Refusal.the-variants.{Place, NoSound}
 use Rattle.shape.specs.declared.refusal.Answer.{Answer}
 use Rattle.shape.specs.declared.refusal.Answer.the-variants.{Done, Refused}
 use Rattle.shape.specs.Refusal.{number-of}
@@ -22,8 +21,8 @@ use Rattle.shape.specs.Limits.{Limits}
 use Rattle.shape.specs.Mask.{lost-in}
 use Rattle.shape.specs.Call.{bytes-of, answer-number, Answered}
 use Rattle.shape.specs.CallLaws.{answered-same}
-use Rattle.rebuild.specs.Rebuild.{rebuild-number, Kept, Agreeable, Rebuilds}
-use Rattle.rebuild.specs.RebuildNumber.{Accepted, Numbered, early, late, numbered}
+use Rattle.rebuild.specs.Rebuild.{last-of, rebuild-number, Kept, Agreeable, Rebuilds}
+use Rattle.rebuild.specs.RebuildNumber.{Accepted, Numbered, early, late, numbered, accepted-number}
 use Rattle.rebuild.specs.LostStrips.{empty-accepted, empty-lost}
 use Rattle.rebuild.specs.RebuildLaws.{kept-refl, kept-trans, kept-same, Ended, is-mended, is-cleared, ended, ended-same, rebuild-done, rebuild-exactly}
 
@@ -61,9 +60,9 @@ module _ (n r s e mask : ℕ) (b d a c : List ℕ) (x y : Answer) (kept : Kept (
       go : Numbered n r s e (length b) mask → x ≡ y
       go (late k) = late-same k .0
       go (early z low high h) =
-          answered-same n r s z x y (subst (λ (m : ℕ). Answered n r s m x) (h (pick (p .mended) 0 10)) (p .answer))
+          answered-same n r s z x y (subst (λ (m : ℕ). Answered n r s m x) (h (last-of x)) (p .answer))
           (subst (λ (m : ℕ). Answered n r s m y)
-          (ap (λ (m : ℕ). rebuild-number n r s e m mask (pick (q .mended) 0 10)) (kept .size) ∙ h (pick (q .mended) 0 10)) (q .answer))
+          (ap (λ (m : ℕ). rebuild-number n r s e m mask (last-of y)) (kept .size) ∙ h (last-of y)) (q .answer))
 
 -- a refusal of 1 to 8 changes no byte
 early-kept : (n r s e mask : ℕ) (b a : List ℕ) (x : Answer) → Rebuilds n r s e mask b a x
@@ -71,7 +70,7 @@ early-kept : (n r s e mask : ℕ) (b a : List ℕ) (x : Answer) → Rebuilds n r
 early-kept n r s e mask b a x w z low high h = go x refl
   where
     is : answer-number x ≡ z
-    is = w .answer .is ∙ h (pick (w .mended) 0 10)
+    is = w .answer .is ∙ h (last-of x)
 
     go : (v : Answer) → x ≡ v → a ≡ b
     go Done q = absurd (omega (arith, sym (ap answer-number q) ∙ is))
@@ -86,6 +85,14 @@ rebuild-determined n r s e mask b a c x y p q = go (numbered n r s e (length b) 
     go : Numbered n r s e (length b) mask → (x ≡ y) × (a ≡ c)
     go (late k) = (both .0, both .1 k)
     go (early z low high h) = (both .0, early-kept n r s e mask b a x p z low high h ∙ sym (early-kept n r s e mask b c y q z low high h))
+
+-- 9 is never given: the call asks for no place
+pub rebuild-never-nine : (n r s e mask : ℕ) (b a : List ℕ) → Rebuilds n r s e mask b a (Refused Place) → ⊥
+rebuild-never-nine n r s e mask b a w = go (w .answer .is) (numbered n r s e (length b) mask)
+  where
+    go : 9 ≡ rebuild-number n r s e (length b) mask 10 → Numbered n r s e (length b) mask → ⊥
+    go q (early z low high h) = omega (arith, q ∙ h 10)
+    go q (late k) = omega (arith, q ∙ accepted-number n r s e (length b) mask 10 k)
 
 -- ---- the empty mask
 

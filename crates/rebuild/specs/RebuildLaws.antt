@@ -8,7 +8,6 @@ use mathlib.Core.List.{List}
 use Prim.Native.Nat.{ℕ, _*_, _<_}
 use native.Mathlib.Omega.{arith}
 use lib.ListN.{length}
-use Rattle.code.specs.Sum.{pick}
 use Rattle.code.specs.Place.{strip-of, at}
 use Rattle.code.specs.Layout.{Layout, Fair, height, places}
 use Rattle.code.specs.Sound.{SoundStripe}
@@ -19,10 +18,10 @@ use Rattle.shape.specs.declared.refusal.Refusal.{Refusal}
 use Rattle.shape.specs.declared.refusal.Refusal.the-variants.{NoSound}
 use Rattle.shape.specs.declared.refusal.Answer.{Answer}
 use Rattle.shape.specs.declared.refusal.Answer.the-variants.{Done, Refused}
-use Rattle.shape.specs.Refusal.{number-of, refusal-some, number-determined}
+use Rattle.shape.specs.Refusal.{number-of, number-determined}
 use Rattle.shape.specs.Mask.{lost-in}
 use Rattle.shape.specs.Call.{answer-number}
-use Rattle.rebuild.specs.Rebuild.{Kept, Agreeable, Mended, Cleared, Rebuilds}
+use Rattle.rebuild.specs.Rebuild.{last-of, Kept, Agreeable, Mended, Cleared, Rebuilds}
 use Rattle.rebuild.specs.RebuildNumber.{Accepted, accepted-number}
 use Rattle.rebuild.specs.LostStrips.{lost-decided}
 
@@ -71,15 +70,14 @@ module _ (n r s e mask : ℕ) (b : List ℕ) (k : Accepted n r s e (length b) ma
   fair = shift-fair n r s (omega (arith, k .limits .n-low))
 
   pub ended : (a : List ℕ) (x : Answer) → Rebuilds n r s e mask b a x → Ended (shift n r s) e (lost-in mask) b a x
-  ended a x w = go x refl (w .mended) (w .answer .is ∙ accepted-number n r s e (length b) mask (pick (w .mended) 0 10) k)
+  ended a x w = go x refl (w .answer .is ∙ accepted-number n r s e (length b) mask (last-of x) k)
     where
-      go : (z : Answer) → x ≡ z → (t : Bool) → answer-number x ≡ pick t 0 10 → Ended (shift n r s) e (lost-in mask) b a z
-      go Done q t h = is-mended (w .done q)
-      go (Refused y) q true h = let z = refusal-some y in absurd (omega (arith, ap answer-number (sym q) ∙ h))
-      go (Refused y) q false h = at (number-determined y NoSound (λ z. omega (arith, ten)) ten)
+      go : (z : Answer) → x ≡ z → answer-number x ≡ last-of x → Ended (shift n r s) e (lost-in mask) b a z
+      go Done q h = is-mended (w .done q)
+      go (Refused y) q h = at (number-determined y NoSound (λ z. omega (arith, ten)) ten)
         where
           ten : number-of y ≡ 10
-          ten = ap answer-number (sym q) ∙ h
+          ten = ap answer-number (sym q) ∙ h ∙ ap last-of q
 
           at : y ≡ NoSound → Ended (shift n r s) e (lost-in mask) b a (Refused y)
           at z = subst (λ (v : Refusal). Ended (shift n r s) e (lost-in mask) b a (Refused v)) (sym z) (is-cleared (w .none (q ∙ ap Refused z)))

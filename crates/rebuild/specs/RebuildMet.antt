@@ -9,6 +9,7 @@ use lib.Dec.{ltb}
 use lib.ListN.{length}
 use borrow.Author.Tests.{lt-ltb}
 use Rattle.code.specs.Sum.{pick}
+use Rattle.code.specs.Below.{count}
 use Rattle.code.specs.Shift.{shift}
 use Rattle.code.specs.Bound.{Good}
 use Rattle.shape.specs.declared.refusal.Refusal.{Refusal}
@@ -16,7 +17,7 @@ use Rattle.shape.specs.declared.refusal.Refusal.the-variants.{Mask, Many, NoSou
 use Rattle.shape.specs.declared.refusal.Answer.the-variants.{Done, Refused}
 use Rattle.shape.specs.Refusal.{number-of}
 use Rattle.shape.specs.Limits.{Limits}
-use Rattle.shape.specs.Mask.{lost-in, count-below, above-test}
+use Rattle.shape.specs.Mask.{lost-in, above-test}
 use Rattle.shape.specs.Call.{bytes-of, call-number, Answered}
 use Rattle.shape.specs.JudgedCall.{unnamed, last-number}
 use Rattle.rebuild.specs.Rebuild.{rebuild-number, Mended, Cleared, Rebuilds}
@@ -36,8 +37,7 @@ module _ (n r s e mask : ℕ) (b : List ℕ) where
       → Rebuilds n r s e mask b b (Refused y)
   rebuilds-refused y h =
       record {
-        mended = true;
-        answer = h 0;
+        answer = h 10;
         done = λ q. absurd (never y (sym q));
         none = λ q. absurd (other (it q) (numbered n r s e (length b) mask));
         refused = λ z q ne. refl;
@@ -52,33 +52,32 @@ module _ (n r s e mask : ℕ) (b : List ℕ) where
 
   -- lines 1 to 6
   pub rebuilds-opened : (y : Refusal) → ((last : ℕ) → Answered n r s (call-number n r s e (length b) last) (Refused y)) → Rebuilds n r s e mask b b (Refused y)
-  rebuilds-opened y h = rebuilds-refused y (λ last. h (pick (above-test mask n) 7 (pick (ltb 2 (count-below 64 (lost-in mask))) 8 last)))
+  rebuilds-opened y h = rebuilds-refused y (λ last. h (pick (above-test mask n) 7 (pick (ltb 2 (count 64 (lost-in mask))) 8 last)))
 
   module _ (l : Limits n r s e) (g : Good n r s) (q : length b ≡ bytes-of n r e) where
-    reached : (last : ℕ) → rebuild-number n r s e (length b) mask last ≡ pick (above-test mask n) 7 (pick (ltb 2 (count-below 64 (lost-in mask))) 8 last)
-    reached last = last-number n r s e l g (length b) (pick (above-test mask n) 7 (pick (ltb 2 (count-below 64 (lost-in mask))) 8 last)) q
+    reached : (last : ℕ) → rebuild-number n r s e (length b) mask last ≡ pick (above-test mask n) 7 (pick (ltb 2 (count 64 (lost-in mask))) 8 last)
+    reached last = last-number n r s e l g (length b) (pick (above-test mask n) 7 (pick (ltb 2 (count 64 (lost-in mask))) 8 last)) q
 
     -- line 7
     pub rebuilds-above : above-test mask n ≡ true → Rebuilds n r s e mask b b (Refused Mask)
     rebuilds-above t =
         rebuilds-refused Mask
         (λ last. subst (λ (m : ℕ). Answered n r s m (Refused Mask))
-        (sym (reached last ∙ ap (λ (u : Bool). pick u 7 (pick (ltb 2 (count-below 64 (lost-in mask))) 8 last)) t)) (plain n r s 7 Mask refl (omega arith)))
+        (sym (reached last ∙ ap (λ (u : Bool). pick u 7 (pick (ltb 2 (count 64 (lost-in mask))) 8 last)) t)) (plain n r s 7 Mask refl (omega arith)))
 
     -- line 8
-    pub rebuilds-many : above-test mask n ≡ false → 2 < count-below 64 (lost-in mask) → Rebuilds n r s e mask b b (Refused Many)
+    pub rebuilds-many : above-test mask n ≡ false → 2 < count 64 (lost-in mask) → Rebuilds n r s e mask b b (Refused Many)
     rebuilds-many t m =
         rebuilds-refused Many
         (λ last. subst (λ (v : ℕ). Answered n r s v (Refused Many))
-        (sym (reached last ∙ ap (λ (u : Bool). pick u 7 (pick (ltb 2 (count-below 64 (lost-in mask))) 8 last)) t
-        ∙ ap (λ (u : Bool). pick u 8 last) (lt-ltb 2 (count-below 64 (lost-in mask)) m))) (plain n r s 8 Many refl (omega arith)))
+        (sym (reached last ∙ ap (λ (u : Bool). pick u 7 (pick (ltb 2 (count 64 (lost-in mask))) 8 last)) t
+        ∙ ap (λ (u : Bool). pick u 8 last) (lt-ltb 2 (count 64 (lost-in mask)) m))) (plain n r s 8 Many refl (omega arith)))
 
   module _ (a : List ℕ) (k : Accepted n r s e (length b) mask) where
     -- 0
     pub rebuilds-done : Mended (shift n r s) e (lost-in mask) b a → Rebuilds n r s e mask b a Done
     rebuilds-done m =
         record {
-          mended = true;
           answer = record { is = sym (accepted-number n r s e (length b) mask 0 k); named = λ z v. absurd (never z v) };
           done = λ z. m;
           none = λ z. absurd (never NoSound z);
@@ -89,7 +88,6 @@ module _ (n r s e mask : ℕ) (b : List ℕ) where
     pub rebuilds-none : Cleared (shift n r s) e (lost-in mask) b a → Rebuilds n r s e mask b a (Refused NoSound)
     rebuilds-none c =
         record {
-          mended = false;
           answer = subst (λ (m : ℕ). Answered n r s m (Refused NoSound)) (sym (accepted-number n r s e (length b) mask 10 k))
               (plain n r s 10 NoSound refl (omega arith));
           done = λ z. absurd (never NoSound (sym z));

@@ -1,11 +1,11 @@
 -- A run of written steps under way: the stripe so far, and the marks of the lines used. Assumes nothing.
 -- w u == step u as it is written    k == how many have run    before, now == the stripe at first and now
-use Prim.Native.Nat.{ℕ, _+_, _<_}
+use Prim.Native.Nat.{ℕ, _+_}
 use mathlib.Core.Path.{_≡_, refl, sym, _∙_, subst}
 use mathlib.Core.List.{List}
 use lib.ListN.{length, getD, set, length-set}
 use Rattle.code.specs.Layout.{Layout}
-use Rattle.code.specs.Steps.{Written, line-of, plan-of}
+use Rattle.code.specs.Steps.{Written, plan-of}
 use Rattle.rebuild.specs.RunTo.{RunTo}
 use Rattle.rebuild.specs.RunLaws.{run-none, run-more}
 use Rattle.rebuild.specs.Stepping.{Stepped}

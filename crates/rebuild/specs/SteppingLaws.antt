@@ -1,19 +1,19 @@
 -- Laws of a step: which line it uses, and at which place of it the target stands, for each kind. Assumes nothing.
 use Prim.Native.Nat.{ℕ, _+_, _≤_, _<_}
-use mathlib.Core.Path.{_≡_, refl, sym, ap, _∙_, subst}
+use mathlib.Core.Path.{_≡_, sym, ap, _∙_, subst}
 use mathlib.Core.Logic.{_≢_}
 use mathlib.Core.Bool.{Bool}
 use mathlib.Core.List.{List}
 use native.Mathlib.Omega.{arith}
 use lib.ListN.{length, getD}
 use Rattle.code.specs.Place.{at}
-use Rattle.code.specs.Layout.{Layout, Fair, X, line, row-line, diagonal-line}
+use Rattle.code.specs.Layout.{Layout, Fair, X, line, diagonal-line}
 use Rattle.code.specs.LayoutLaws.{row-length, row-at, diagonal-length, diagonal-at, diagonal-end, line-row, line-diagonal}
 use Rattle.code.specs.Run.{Ran}
 use Rattle.code.specs.Steps.{Written, line-of, BuiltAt, RightStep, by-row, by-diagonal, of-row, of-strip}
 use Rattle.code.specs.Walk.{Walk}
 use Rattle.code.specs.StepsLaws.{line-else, line-own, line-cross}
-use Rattle.rebuild.specs.Others.{Builds}
+use Rattle.lines.specs.Others.{Builds}
 use Rattle.rebuild.specs.Stepping.{Shaped, data-row, data-diagonal, h-row, v-diagonal, Stepped}
 
 -- a right step is one of them

@@ -1,38 +1,22 @@
 -- Laws of the test: one line more, the end, and the line that fails. Assumes nothing.
-use mathlib.Core.Path.{_≡_, refl, sym, ap, _∙_}
-use mathlib.Core.Bool.{Bool, true, false, not}
+use mathlib.Core.Path.{_≡_, sym, ap, _∙_}
+use mathlib.Core.Bool.{true, false, not}
 use mathlib.Core.Logic.{_≢_}
 use mathlib.Core.List.{List}
-use Prim.Native.Nat.{ℕ, zero, suc, _+_, _≤_, _<_}
+use Prim.Native.Nat.{ℕ, _+_, _≤_, _<_}
 use native.Mathlib.Nat.{not-suc-le-zero}
 use native.Mathlib.Omega.{arith}
 use lib.Dec.{eqb}
 use lib.ListN.{getD}
 use borrow.Author.Count.{below-more}
 use borrow.Author.Tests.{eq-eqb, eqb-true, not-false}
-use Rattle.code.specs.Sum.{sum, pick}
+use Rattle.code.specs.Sum.{sum}
 use Rattle.code.specs.SumLaws.{clash}
+use Rattle.code.specs.BelowLaws.{Hit, some-none, some-hit}
 use Rattle.code.specs.Place.{at}
 use Rattle.code.specs.Layout.{Layout, line}
-use Rattle.stripe.specs.Scrub.{some}
-use Rattle.stripe.specs.Tally.{unbalanced}
-use Rattle.stripe.specs.TestLaws.{some-none}
+use Rattle.lines.specs.Unbalanced.{unbalanced}
 use Rattle.rebuild.specs.Testing.{Passed, Failed, Tests}
-
--- one of the first m tests holds
-record Hit (m : ℕ) (t : ℕ → Bool) : Type 0 where
-  k : ℕ
-  below : k < m
-  holds : t k ≡ true
-
-some-hit : (m : ℕ) (t : ℕ → Bool) → some m t ≡ true → Hit m t
-unfolding some
-some-hit zero t e = clash e
-some-hit (suc m) t e = go (t m) refl e (some-hit m t)
-  where
-    go : (x : Bool) → t m ≡ x → pick x true (some m t) ≡ true → (some m t ≡ true → Hit m t) → Hit (suc m) t
-    go true q h rest = record { k = m; below = omega arith; holds = q }
-    go false q h rest = let z = rest h in record { k = z .k; below = omega (arith, z .below); holds = z .holds }
 
 module _ (L : Layout) (e : ℕ) (used s : List ℕ) where
   -- line t sums to zero unless a step used it

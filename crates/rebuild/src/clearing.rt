@@ -1,4 +1,4 @@
-// A strip set to zero: what is lost is no longer read as data.
+// A strip set to zero: what is lost is no longer read as data. The run of bytes that a strip is, and bytes set to a value, serve others too.
 use shape::Shape;
 ghost use mathlib.Core.Path.{_≡_};
 ghost use Prim.Native.Nat.{_+_, _*_, _≤_};
@@ -10,7 +10,7 @@ ghost use Rattle.element.specs.Filled.{Filled};
 ghost use Rattle.rebuild.specs.Clear.{Rows, Clears};
 
 // The rows that a strip stores: the last one has no corner.
-fn rows(shape: Shape, strip: usize) -> usize
+pub fn rows(shape: Shape, strip: usize) -> usize
     requires { ⌜ Limits (shape .n) (shape .r) (shape .s) (shape .e) ⌝ }
     ensures { λ m. ⌜ Rows (shift (shape .n) (shape .r) (shape .s)) strip m ⌝ }
 {
@@ -18,13 +18,13 @@ fn rows(shape: Shape, strip: usize) -> usize
     if strip < shape.n { r + 1 } else { r }
 }
 
-// The m bytes from d on become zero.
-fn zero(stripe: &mut [u8], d: usize, m: usize)
+// The m bytes from d on become value.
+pub fn fill(stripe: &mut [u8], d: usize, m: usize, value: u8)
     requires { ⌜ d + m ≤ length (now stripe) ⌝ }
-    ensures { λ _. ⌜ Filled (now (stripe .entry)) d m (λ k. 0) (now (stripe .exit)) ⌝ }
+    ensures { λ _. ⌜ Filled (now (stripe .entry)) d m (λ k. value) (now (stripe .exit)) ⌝ }
 {
     for t in 0..m {
-        stripe[d + t] = 0;
+        stripe[d + t] = value;
     }
 }
 
@@ -38,5 +38,5 @@ pub fn clear(shape: Shape, strip: usize, stripe: &mut [u8])
     let m = rows(shape, strip);
     let e = shape.e;
     let d = strip * (shape.r + 1) * e;
-    zero(stripe, d, m * e);
+    fill(stripe, d, m * e, 0);
 }

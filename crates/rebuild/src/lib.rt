@@ -1,5 +1,5 @@
 // Rebuild: up to two lost strips given back from the others, or the answer that no sound stripe agrees with them.
-mod clearing;
+pub mod clearing;
 mod mending;
 mod stepping;
 mod testing;

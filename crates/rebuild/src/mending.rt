@@ -9,11 +9,12 @@ ghost use mathlib.Core.Path.{_≡_};
 ghost use mathlib.Core.Bool.{false};
 ghost use Prim.Native.Nat.{ℕ, _*_, _≤_};
 ghost use lib.ListN.{length, getD};
+ghost use Rattle.code.specs.Below.{count};
 ghost use Rattle.code.specs.Layout.{pair, places};
 ghost use Rattle.code.specs.Shift.{shift};
 ghost use Rattle.code.specs.Bound.{Good};
 ghost use Rattle.shape.specs.Limits.{Limits};
-ghost use Rattle.shape.specs.Mask.{lost-in, count-below, above-test};
+ghost use Rattle.shape.specs.Mask.{lost-in, above-test};
 ghost use Rattle.rebuild.specs.PlanRun.{PlanRun, Mends};
 
 // The walker's plan for the strips a and b, run on the bytes; the lines that it used are marked.
@@ -52,7 +53,7 @@ fn mend_pair(shape: Shape, a: usize, b: usize, stripe: &mut [u8]) -> bool
 // there is none. A caller with room of its own can mend a copy there.
 pub fn mend(shape: Shape, stripe: &mut [u8], mask: u64) -> bool
     requires { ⌜ Limits (shape .n) (shape .r) (shape .s) (shape .e) × Good (shape .n) (shape .r) (shape .s) ⌝ }
-    requires lost { ⌜ (above-test mask (shape .n) ≡ false) × (count-below 64 (lost-in mask) ≤ 2) ⌝ }
+    requires lost { ⌜ (above-test mask (shape .n) ≡ false) × (count 64 (lost-in mask) ≤ 2) ⌝ }
     requires size { ⌜ length (now stripe) ≡ shape .e * places (shift (shape .n) (shape .r) (shape .s)) ⌝ }
     ensures { λ x. ⌜ Mends (shift (shape .n) (shape .r) (shape .s)) (shape .e) (lost-in mask) (now (stripe .entry)) (now (stripe .exit)) x ⌝ }
 {

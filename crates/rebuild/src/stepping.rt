@@ -3,28 +3,12 @@ use shape::Shape;
 ghost use mathlib.Core.Path.{_≡_};
 ghost use Prim.Native.Nat.{ℕ, _+_, _*_, _≤_, _<_};
 ghost use lib.ListN.{length, getD};
-ghost use Rattle.code.specs.Layout.{line, places};
+ghost use Rattle.code.specs.Layout.{places};
 ghost use Rattle.code.specs.Shift.{shift};
 ghost use Rattle.shape.specs.Limits.{Limits};
 ghost use Rattle.walker.specs.Written.{step, written};
-ghost use Rattle.rebuild.specs.Others.{Builds};
 ghost use Rattle.rebuild.specs.Running.{Running};
 ghost use Rattle.rebuild.specs.Stepping.{Shaped, Stepped};
-
-// Place v of line t becomes the sum of the others; the last one takes its room in the list.
-fn build(shape: Shape, t: usize, v: usize, stripe: &mut [u8])
-    requires { ⌜ Limits (shape .n) (shape .r) (shape .s) (shape .e) ⌝ }
-    requires line { ⌜ (t < shape .r + shape .n) × (v < length (line (shift (shape .n) (shape .r) (shape .s)) t)) ⌝ }
-    requires size { ⌜ length (now stripe) ≡ shape .e * places (shift (shape .n) (shape .r) (shape .s)) ⌝ }
-    ensures { λ _. ⌜ Builds (shift (shape .n) (shape .r) (shape .s)) (shape .e) t v (now (stripe .entry)) (now (stripe .exit)) ⌝ }
-{
-    let mut offs = [0usize; 33];
-    let m = stripe::line(shape, t, &mut offs);
-    let e = shape.e;
-    let o = offs[v];
-    offs[v] = offs[m - 1];
-    element::gather(stripe, e, o, &offs[..m - 1]);
-}
 
 // Runs the step (kind, row, strip): kind 2 by its diagonal, kind 4 by the diagonal whose U the strip stores, the rest by their row.
 // Hands back the line that it used.
@@ -36,15 +20,15 @@ fn run_step(shape: Shape, kind: u8, row: usize, strip: usize, stripe: &mut [u8])
 {
     if kind == 2 {
         let t = shape.r + shape.diagonal(row, strip);
-        build(shape, t, row, stripe);
+        lines::build(shape, t, row, stripe);
         return t;
     }
     if kind == 4 {
         let t = shape.r + strip;
-        build(shape, t, row, stripe);
+        lines::build(shape, t, row, stripe);
         return t;
     }
-    build(shape, row, strip, stripe);
+    lines::build(shape, row, strip, stripe);
     row
 }
 

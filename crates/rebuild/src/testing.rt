@@ -17,7 +17,7 @@ pub fn unused_zero(shape: Shape, stripe: &[u8], used: &[u8; 64]) -> bool
     let m = shape.r + shape.n;
     for t in 0..m {
         if used[t] == 0 {
-            if stripe::wrong_line(shape, stripe, t) {
+            if lines::wrong_line(shape, stripe, t) {
                 return false;
             }
         }

@@ -37,11 +37,11 @@ ends-low c = omega (arith, ends-inside c, c .before .before .pre .1 .1, bytes-mo
 mul-d-2 : tie.Need-mul-d-2
 mul-d-2 c = omega (arith, ends-low (c .before))
 
-mul-zero : tie.Need-mul-zero
-mul-zero c = omega (arith, ends-low (c .before .before))
+mul-fill : tie.Need-mul-fill
+mul-fill c = omega (arith, ends-low (c .before .before))
 
-zero-requires : tie.Need-zero-requires
-zero-requires c κs = ends-inside (c .before .before)
+fill-requires : tie.Need-fill-requires
+fill-requires c κs = ends-inside (c .before .before)
 
 same-length : tie.Need-same-length
 same-length c = search needs
@@ -49,9 +49,9 @@ same-length c = search needs
 returns : tie.Need-returns
 returns c =
     let start = c .before .before .before .before .before .before .before in
-    filled-clears _ _ _ _ (start .pre .1 .0) (c .before .before .before .before .before .rows .ensures) _ _ (c .before .before .zero .ensures)
+    filled-clears _ _ _ _ (start .pre .1 .0) (c .before .before .before .before .before .rows .ensures) _ _ (c .before .before .fill .ensures)
 
 pub clear-spec : {M : Type 1} → statement M
 clear-spec =
     tie.close
-    (tie.spec rows-requires add-d mul-d mul-d-2 mul-zero zero-requires same-length returns)
+    (tie.spec rows-requires add-d mul-d mul-d-2 mul-fill fill-requires same-length returns)

@@ -40,9 +40,10 @@ mend-pair-requires : tie.Need-mend-pair-requires
 mend-pair-requires c κs =
     let start = c .before .before .before .before .before in
     let a = start .args in
-    let first = c .before .before .first-lost .ensures in
     let last = c .before .last-lost .ensures in
-    (start .pre .0, ((first-last (lost-in (a .mask)) _ _ first last, above-last (a .mask) (a .shape .n) _ (start .pre .1 .0 .0) last), start .pre .1 .1))
+    let ordered = first-last (lost-in (a .mask)) _ _ (c .before .before .first-lost .ensures) last in
+    let within = above-last (a .mask) (a .shape .n) _ (start .pre .1 .0 .0) last in
+    (start .pre .0, ((omega arith, omega arith), start .pre .1 .1))
 
 same-length-2 : tie.Need-same-length-2
 same-length-2 c = search needs

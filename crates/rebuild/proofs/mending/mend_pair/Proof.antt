@@ -19,7 +19,7 @@ fair n r s e l = shift-fair n r s (omega (arith, l .n-low))
 run-requires : tie.Need-run-requires
 run-requires c κs =
     let start = c .before .before .before in
-    (start .pre .0, (start .pre .1 .0, (start .pre .1 .1, (refl, λ t. zeros 64 t))))
+    (start .pre .0, ((omega arith, omega arith), (start .pre .1 .1, (refl, λ t. zeros 64 t))))
 
 unused-zero-requires : tie.Need-unused-zero-requires
 unused-zero-requires c κs =

@@ -24,7 +24,7 @@ walk-requires c κs =
     let a = start .args in
     let l = start .pre .0 .0 in
     let fair = shift-fair (a .shape .n) (a .shape .r) (a .shape .s) (omega (arith, l .n-low)) in (
-      record { strips = l .n-high; rows = l .r-high; ordered = start .pre .1 .0 .0; within = start .pre .1 .0 .1 },
+      record { strips = l .n-high; rows = l .r-high; ordered = omega arith; within = omega arith },
       drawn-fair _ _ (shift (a .shape .n) (a .shape .r) (a .shape .s)) fair
           (filled-draws _ _ (a .shape .n) (a .shape .r) (a .shape .s) (l .n-high) (c .before .before .before .before .map-of .ensures) (c .before .before .before .homes .ensures)),
       refl,
@@ -37,7 +37,7 @@ run-steps-requires c κs =
     let walked = c .before .before .before .walk in (
       start .pre .0 .0,
       (
-        (walked .ensures .room, walk-shaped _ _ _ _ _ (walked .ensures)),
+        (omega (arith, walked .ensures .room, start .pre .0 .0 .r-high), walk-shaped _ _ _ _ _ (walked .ensures)),
         (start .pre .1 .1 .0, start .pre .1 .1 .1),
       ),
     )

@@ -1,18 +1,18 @@
--- `zero` meets its contract: the first t of the m bytes are zero. Assumes nothing.
+-- `fill` meets its contract: the first t of the m bytes are the value. Assumes nothing.
 use borrow.Author.Needs.{needs}
 use native.Mathlib.Omega.{arith}
 use Prim.Native.Nat.{_≤_, _-_}
 use mathlib.Core.Path.{refl}
 use Rattle.element.specs.Filled.{Filled}
 use Rattle.element.specs.FilledLaws.{filled-none, filled-more, filled-all}
-use Rattle.rebuild.proofs.clearing.zero.Statement.{statement}
-use Rattle.rebuild.proofs.clearing.zero.Tie as tie
+use Rattle.rebuild.proofs.clearing.fill.Statement.{statement}
+use Rattle.rebuild.proofs.clearing.fill.Tie as tie
 
 abbrev Inv-loop : tie.InvT-loop
-Inv-loop stripe₀ d m t₀ stripe t = Filled stripe₀ d t (λ k. 0) stripe × (t ≤ m)
+Inv-loop stripe₀ d m value t₀ stripe t = Filled stripe₀ d t (λ k. value) stripe × (t ≤ m)
 
 abbrev μ-loop : tie.MeasureT-loop
-μ-loop stripe₀ d m t₀ stripe t = m - t
+μ-loop stripe₀ d m value t₀ stripe t = m - t
 
 loop-holds : tie.Need-loop-holds Inv-loop μ-loop
 loop-holds c = (filled-none _ _ _, search needs)
@@ -42,8 +42,8 @@ same-length c = c .before .loop .inv .0 .long
 returns : tie.Need-returns Inv-loop μ-loop
 returns c = filled-all _ _ _ _ _ _ (c .before .loop .inv .1) (c .loop-test .left) (c .before .loop .inv .0)
 
-pub zero-spec : {M : Type 1} → statement M
-zero-spec =
+pub fill-spec : {M : Type 1} → statement M
+fill-spec =
     tie.close
     (tie.spec
     Inv-loop
