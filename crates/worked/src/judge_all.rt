@@ -70,7 +70,7 @@ impl Tally {
     }
 }
 
-fn part(word: &[u8], count: u64) {
+pub(crate) fn part(word: &[u8], count: u64) {
     io::write_all(STDOUT_FILENO, word);
     io::write_all(STDOUT_FILENO, b" ");
     io::print_decimal(STDOUT_FILENO, count);

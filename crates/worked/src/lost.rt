@@ -1,7 +1,7 @@
 // Case C of 01 both ways, three chains of which none touches a lost U, and the masks that are refused.
 use crate::small::line;
 
-// Case B's stripe with strips 0 and 1 lost; then the same with U(4) changed from 44 to 45, so that no sound stripe agrees.
+// Case B's stripe with strips 0 and 1 lost.
 pub(crate) fn case_c() {
     let mut s = [
         0xffu8,
@@ -24,6 +24,10 @@ pub(crate) fn case_c() {
     ];
     let x = rebuild::rebuild(5, 2, 2, 1, &mut s, 3);
     line(b"C", x, &s);
+}
+
+// The same with U(4) changed from 44 to 45, so that no sound stripe agrees.
+pub(crate) fn case_c_changed() {
     let mut t = [
         0xffu8,
         0xff,

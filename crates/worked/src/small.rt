@@ -27,7 +27,7 @@ fn bytes(s: &[u8]) {
     io::write_all(STDOUT_FILENO, b"\n");
 }
 
-fn number(x: Answer) -> u64 {
+pub(crate) fn number(x: Answer) -> u64 {
     match x {
         Answer::Done => 0,
         Answer::Refused(y) => {

@@ -1,6 +1,5 @@
 -- `worked::small::bytes` ends and reads inside the slice. Assumes nothing.
 use borrow.Author.Needs.{needs}
-use native.Mathlib.Omega.{arith}
 use Prim.Native.Nat.{_≤_, _-_}
 use lib.ListN.{length}
 use Rattle.worked.proofs.small.bytes.Statement.{statement}
