@@ -7,7 +7,7 @@ command -v valgrind >/dev/null || { echo 'valgrind is not there: nothing counted
 
 room=$(mktemp -d) || exit 2
 trap 'rm -rf "$room"' EXIT
-gcc -std=gnu99 -O2 -Wall -Wextra -Werror tools/call_cost.c target/staticlib/libfiddlefern.a -o "$room/call_cost" || exit 1
+gcc -std=gnu99 -O2 -Wall -Wextra -Werror -Iinclude tools/call_cost.c target/staticlib/libfiddlefern.a -o "$room/call_cost" || exit 1
 
 # The instructions of a run of call_cost.
 instructions() { # CALL COUNT n r s e
@@ -19,12 +19,13 @@ instructions() { # CALL COUNT n r s e
 cost() { # CALL COUNT n r s e
     local with without
     with=$(instructions "$@") && without=$(instructions nothing "${@:2}") || return 1
+    [ "${with:-0}" -gt "${without:-0}" ] || { echo 'nothing was counted' >&2 && return 1; }
     echo $(((with - without) / $2))
 }
 
-# Counts a call and prints what it costs; fails above LIMIT thousandths of an instruction a byte (0: no limit).
+# Counts a call and prints what it costs, which it leaves in k; fails above LIMIT thousandths of an instruction a byte (0: no limit).
 counted() { # WHAT BYTES LIMIT CALL COUNT n r s e
-    local k each
+    local each
     k=$(cost "${@:4}") || exit 1
     each=$((k * 1000 / $2))
     printf '%s, n r s e = %s: %d instructions' "$1" "${*:6}" "$k"
@@ -43,7 +44,17 @@ done
 # 35 data elements
 data=$((7 * 5 * 4096))
 counted 'encode' $data 450 encode 20 7 5 1 4096
+encode=$k
 counted 'scrub, a sound stripe' $data 500 scrub 20 7 5 1 4096
 counted 'write of 4096 bytes' 4096 2200 write 100 7 5 1 4096
 counted 'write of one byte' 1 0 write1 1000 7 5 1 4096
 counted 'read' 1 0 read 1000 7 5 1 4096
+
+# A rebuild may cost 1.3 times what encode costs, whichever strips are lost: two data strips, one, strip n, one of each.
+rebuilt() { # WHAT MASK
+    counted "rebuild, $1 lost" 1 $((encode * 1300)) "rebuild:$2" 20 7 5 1 4096
+}
+rebuilt 'strips 1 and 3' 10
+rebuilt 'strip 1' 2
+rebuilt 'strip 7' 128
+rebuilt 'strips 1 and 7' 130

@@ -1,14 +1,20 @@
 /* Makes one of the calls many times, or an empty function as often: the difference of the two runs is what the call costs. Ends with 1 where
    an answer is wrong. */
-#include <stdint.h>
 #include <stdio.h>
 #include <stdlib.h>
 #include <string.h>
 
-#include "calls.h"
+#include "fiddlefern.h"
 
-__attribute__((noinline)) static uint64_t nothing(size_t n, size_t r, size_t s, size_t e) {
-    __asm__ volatile("" : : "r"(n), "r"(r), "r"(s), "r"(e));
+/* The shape and its stripe; the place that is written and read; the run that is written, of e bytes. */
+static size_t n, r, s, e, len, row, strip;
+static uint8_t *stripe, *run;
+
+/* What each call has to answer: 0 on a good shape, with the size from judge and the offset from read; 5 with a pair on a weak one. */
+static uint64_t judged, due, offset;
+
+__attribute__((noinline)) static uint64_t nothing(size_t a, size_t b, size_t c, size_t d) {
+    __asm__ volatile("" : : "r"(a), "r"(b), "r"(c), "r"(d));
     return 0;
 }
 
@@ -18,28 +24,22 @@ static void right(int holds, const char *what) {
     exit(1);
 }
 
-int main(int argc, char **argv) {
-    if (argc != 7) {
-        fprintf(stderr, "usage: call_cost nothing|judge|encode|scrub|read|write|write1 COUNT n r s e\n");
-        return 2;
-    }
-    const char *call = argv[1];
-    long count = atol(argv[2]);
-    size_t n = (size_t)atol(argv[3]), r = (size_t)atol(argv[4]), s = (size_t)atol(argv[5]), e = (size_t)atol(argv[6]);
-    size_t len = e * (n * (r + 1) + r), row = r / 2, strip = n / 2, last = e - 1;
-    uint8_t *stripe = malloc(len), *run = malloc(e);
-    if (!stripe || !run) return 2;
+/* Makes the stripe sound, first by encode and then by rebuild, with FF in the lost strips 0 and 1. */
+static void prepare(void) {
     for (size_t k = 0; k < len; k++) stripe[k] = (uint8_t)(k * 2654435761u >> 13);
     for (size_t k = 0; k < e; k++) run[k] = (uint8_t)(k * 40503u >> 7);
+    judged = fiddlefern_judge(n, r, s, e);
+    int good = fiddlefern_number(judged) == FIDDLEFERN_DONE;
+    right(good ? judged == (uint64_t)len << 32 : fiddlefern_number(judged) == FIDDLEFERN_REFUSAL_WEAK, "judge");
+    due = good ? 0 : judged;
+    offset = good ? (uint64_t)((strip * (r + 1) + row) * e) << 32 : judged;
+    right(fiddlefern_encode(n, r, s, e, stripe, len) == due, "encode");
+    memset(stripe, 0xFF, 2 * (r + 1) * e);
+    right(fiddlefern_rebuild(n, r, s, e, stripe, len, 3) == due, "rebuild");
+}
 
-    /* What each call has to answer: 0 on a good shape, with the size from judge and the offset from read; 5 with a pair on a weak one. */
-    uint64_t judged = fiddlefern_judge(n, r, s, e);
-    int good = (judged & 0xff) == 0;
-    uint64_t place = (uint64_t)((strip * (r + 1) + row) * e) << 32;
-    right(good ? judged == (uint64_t)len << 32 : (judged & 0xff) == 5, "judge");
-    right(fiddlefern_encode(n, r, s, e, stripe, len) == (good ? 0 : judged), "encode");
-    uint64_t due = good ? 0 : judged;
-
+/* Makes the call; what a rebuild finds in the lost strips has no influence, so they need not be lost again each time. */
+static void repeat(const char *call, long count) {
     uint64_t differ = 0;
     if (!strcmp(call, "nothing") || !strcmp(call, "judge")) {
         uint64_t (*ask)(size_t, size_t, size_t, size_t) = call[0] == 'j' ? fiddlefern_judge : nothing;
@@ -50,20 +50,36 @@ int main(int argc, char **argv) {
     else if (!strcmp(call, "scrub"))
         for (long k = 0; k < count; k++) differ |= fiddlefern_scrub(n, r, s, e, stripe, len) ^ due;
     else if (!strcmp(call, "read"))
-        for (long k = 0; k < count; k++) differ |= fiddlefern_read(n, r, s, e, stripe, len, row, strip) ^ (good ? place : judged);
+        for (long k = 0; k < count; k++) differ |= fiddlefern_read(n, r, s, e, stripe, len, row, strip) ^ offset;
     else if (!strcmp(call, "write"))
         for (long k = 0; k < count; k++) differ |= fiddlefern_write(n, r, s, e, stripe, len, row, strip, 0, run, e) ^ due;
     else if (!strcmp(call, "write1"))
-        for (long k = 0; k < count; k++) differ |= fiddlefern_write(n, r, s, e, stripe, len, row, strip, last, run, 1) ^ due;
-    else
-        return 2;
+        for (long k = 0; k < count; k++) differ |= fiddlefern_write(n, r, s, e, stripe, len, row, strip, e - 1, run, 1) ^ due;
+    else if (!strncmp(call, "rebuild:", 8)) {
+        uint64_t mask = strtoull(call + 8, NULL, 10);
+        for (long k = 0; k < count; k++) differ |= fiddlefern_rebuild(n, r, s, e, stripe, len, mask) ^ due;
+    } else
+        exit(2);
     right(differ == 0, call);
+}
+
+int main(int argc, char **argv) {
+    if (argc != 7) {
+        fprintf(stderr, "usage: call_cost nothing|judge|encode|scrub|read|write|write1|rebuild:MASK COUNT n r s e\n");
+        return 2;
+    }
+    n = (size_t)atol(argv[3]), r = (size_t)atol(argv[4]), s = (size_t)atol(argv[5]), e = (size_t)atol(argv[6]);
+    len = e * (n * (r + 1) + r), row = r / 2, strip = n / 2;
+    stripe = malloc(len), run = malloc(e);
+    if (!stripe || !run) return 2;
+    prepare();
+    repeat(argv[1], atol(argv[2]));
 
     /* The stripe is sound after all that, and is not with one byte changed: row and strip are found. */
     right(fiddlefern_scrub(n, r, s, e, stripe, len) == due, "scrub of a sound stripe");
-    stripe[(strip * (r + 1) + row) * e + last] ^= 1;
-    uint64_t found = 0x3010100 | (uint64_t)row << 32 | (uint64_t)strip << 40;
-    right(fiddlefern_scrub(n, r, s, e, stripe, len) == (good ? found : judged), "scrub of a changed byte");
+    stripe[(strip * (r + 1) + row) * e + e - 1] ^= 1;
+    uint64_t found = fiddlefern_scrub(n, r, s, e, stripe, len);
+    right(due ? found == due : found == (0x3010100 | (uint64_t)row << 32 | (uint64_t)strip << 40), "scrub of a changed byte");
     free(stripe);
     free(run);
     return 0;
