@@ -6,7 +6,7 @@ help:
 	@echo 'make test     the gate, .ci/run: prove every crate from nothing, then all tests'
 	@echo 'make lib      target/staticlib/libfiddlefern.a, for C and Rust to link'
 	@echo 'make bench    how fast the calls of that archive are, against memcpy and plain Rust'
-	@echo 'make figures  how large each crate is, and the last check'"'"'s times'
+	@echo 'make figures  the figures of docs/PERFORMANCE.md: sizes, check times, instructions, stack, speed'
 	@echo 'make fmt      lay out every source file'
 
 test:
