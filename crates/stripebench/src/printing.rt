@@ -16,7 +16,7 @@ fn end() {
 }
 
 // The line of a record that was read whole.
-pub fn line(kind: u8, reply: Reply) {
+pub(crate) fn line(kind: u8, reply: Reply) {
     number(kind as u64);
     match reply {
         Reply::Refused(x) => {
@@ -39,7 +39,7 @@ pub fn line(kind: u8, reply: Reply) {
 }
 
 // The line that ends the run.
-pub fn last_line(word: &[u8], kind: u8) {
+pub(crate) fn last_line(word: &[u8], kind: u8) {
     io::write_all(STDOUT_FILENO, word);
     number(kind as u64);
     end();
