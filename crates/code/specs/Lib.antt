@@ -48,4 +48,5 @@ pub mod Failing
 pub mod Divisor
 pub mod Exact
 pub mod Lookalikes
+pub mod SoundTest
 pub mod Rows

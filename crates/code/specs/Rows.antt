@@ -11,10 +11,11 @@ use lib.ListN.{length, getD}
 use borrow.Author.Tests.{ltb-true, ltb-false}
 use Rattle.code.specs.Xor.{_⊕_}
 use Rattle.code.specs.Sum.{sumTo, pick}
-use Rattle.code.specs.Test.{Test, equal?, less?, so?, both?, below?, Each, each?}
+use Rattle.code.specs.Test.{Test, equal?, so?, both?, below?, Each, each?}
 use Rattle.code.specs.Place.{at}
-use Rattle.code.specs.Layout.{X, H, U, places}
-use Rattle.code.specs.Sound.{along, Sound, SoundStripe}
+use Rattle.code.specs.Layout.{X}
+use Rattle.code.specs.Sound.{along, SoundStripe}
+use Rattle.code.specs.SoundTest.{sound-stripe?}
 use Rattle.code.specs.Shift.{diagonal, shift}
 use Rattle.code.specs.Bound.{searched, pr, q, Good, wide, narrow}
 
@@ -91,21 +92,9 @@ diagonals? : (n r s i : ℕ) (ds : List ℕ) → Test (Diagonals n r s i ds)
 diagonals? n r s i ds =
     so? (both? (equal? (length ds) n) (below? n (λ j. equal? (diagonal n r s i j) (getD ds j 0)))) (λ h. record { size = h .0; each = h .1 })
 
--- every H and U of one byte
-sound? : (n r s : ℕ) (f : ℕ → ℕ) → Test (Sound (shift n r s) f)
-sound? n r s f =
-    so? (both? (below? r (λ i. equal? (f (H (shift n r s) i)) (sumTo n (λ j. f (X (shift n r s) i j)))))
-    (below? n (λ d. equal? (f (U (shift n r s) d)) (along (shift n r s) (λ i j. f (X (shift n r s) i j)) d))))
-    (λ h. record { rows = h .0; diagonals = h .1 })
-
-stripe? : (n r s e : ℕ) (bs : List ℕ) → Test (SoundStripe (shift n r s) e bs)
-stripe? n r s e bs =
-    so? (both? (equal? (length bs) (e * places (shift n r s))) (both? (below? (length bs) (λ x. less? (getD bs x 0) 256)) (below? e (λ k. sound? n r s (at bs e k)))))
-    (λ h. record { stripe = record { size = h .0; bytes = h .1 .0 }; each = h .1 .1 })
-
 encodes? : (n r s e : ℕ) (xs bs : List ℕ) → Test (Encodes n r s e xs bs)
 encodes? n r s e xs bs =
-    so? (both? (below? r (λ i. below? n (λ j. below? e (λ k. equal? (at bs e k (X (shift n r s) i j)) (getD xs ((i * n + j) * e + k) 0))))) (stripe? n r s e bs))
+    so? (both? (below? r (λ i. below? n (λ j. below? e (λ k. equal? (at bs e k (X (shift n r s) i j)) (getD xs ((i * n + j) * e + k) 0))))) (sound-stripe? n r s e bs))
     (λ h. record { elements = λ i j k li lj lk. h .0 i li j lj k lk; sound = h .1 })
 
 test : (x : Entry) → Test (Rule x)
@@ -115,5 +104,5 @@ test (stripe n r s e xs bs) = encodes? n r s e xs bs
 
 -- every entry holds
 pub rows-hold : Each Rule rows
-unfolding test greatest? diagonals? sound? stripe? encodes? sumTo along diagonal q pr searched _⊕_
+unfolding test greatest? diagonals? encodes? sumTo along diagonal q pr searched _⊕_
 rows-hold = each? test rows .gives tt

@@ -21,7 +21,7 @@ use Rattle.shape.specs.Answers.{bytes-most}
 use Rattle.shape.specs.Call.{call-number, answer-number, Answered}
 use Rattle.shape.specs.Judge.{Judges}
 use Rattle.shape.specs.JudgedCall.{good-limits, answered-small}
-use Rattle.stripe.specs.declared.scrubbing.Finding.{Finding}
+use Rattle.finding.specs.declared.Finding.{Finding}
 use Rattle.stripe.specs.declared.scrubbing.Scrubbed.{Scrubbed}
 use Rattle.stripe.specs.declared.scrubbing.Scrubbed.the-variants as scrubbed
 use Rattle.stripe.specs.Encode.{Encodes}

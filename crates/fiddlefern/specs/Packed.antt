@@ -14,8 +14,8 @@ use Rattle.shape.specs.declared.refusal.Answer.the-variants as answer
 use Rattle.shape.specs.Refusal.{number-of, lower-of, upper-of}
 use Rattle.shape.specs.Judge.{Judges}
 use Rattle.shape.specs.Call.{Answered}
-use Rattle.stripe.specs.declared.scrubbing.Finding.{Finding}
-use Rattle.stripe.specs.declared.scrubbing.Finding.the-variants as finding
+use Rattle.finding.specs.declared.Finding.{Finding}
+use Rattle.finding.specs.declared.Finding.the-variants as finding
 use Rattle.stripe.specs.declared.scrubbing.Scrubbed.{Scrubbed}
 use Rattle.stripe.specs.declared.scrubbing.Scrubbed.the-variants as scrubbed
 use Rattle.stripe.specs.Encode.{Encodes}

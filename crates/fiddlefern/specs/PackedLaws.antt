@@ -9,7 +9,7 @@ use Rattle.code.specs.Shift.{shift}
 use Rattle.shape.specs.declared.refusal.Refusal.{Refusal}
 use Rattle.shape.specs.Refusal.{number-of, lower-of, upper-of, refusal-most}
 use Rattle.shape.specs.JudgeLaws.{judge-determined}
-use Rattle.stripe.specs.declared.scrubbing.Finding.{Finding}
+use Rattle.finding.specs.declared.Finding.{Finding}
 use Rattle.stripe.specs.EncodeDetermined.{encode-determined}
 use Rattle.stripe.specs.WriteLaws.{write-determined}
 use Rattle.stripe.specs.ReadLaws.{read-check-determined}

@@ -1,7 +1,7 @@
 // An answer as one 64-bit number: byte 0 is the number that comes back.
+use finding::Finding;
 use shape::Answer;
 use shape::Refusal;
-use stripe::Finding;
 ghost use mathlib.Core.Path.{_≡_};
 ghost use Prim.Native.Nat.{_≤_};
 ghost use Rattle.shape.specs.Refusal.{lower-of, upper-of};

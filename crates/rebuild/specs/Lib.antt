@@ -6,11 +6,6 @@ pub mod LostStrips
 pub mod RebuildLaws
 pub mod RebuildDetermined
 pub mod RebuildMet
--- Named stripes, and the programs that the contract shuts out.
-pub mod Computed
-pub mod Chains
-pub mod CaseC
-pub mod ShutOut
 -- A step, and a plan of steps, run on the bytes.
 pub mod RunTo
 pub mod Stepping

@@ -21,6 +21,7 @@ use Rattle.shape.specs.declared.refusal.Answer.the-variants.{Done, Refused}
 use Rattle.shape.specs.Refusal.{number-of, number-determined}
 use Rattle.shape.specs.Mask.{lost-in}
 use Rattle.shape.specs.Call.{answer-number}
+use Rattle.shape.specs.CallLaws.{done-refused}
 use Rattle.rebuild.specs.Rebuild.{last-of, Kept, Agreeable, Mended, Cleared, Rebuilds}
 use Rattle.rebuild.specs.RebuildNumber.{Accepted, accepted-number}
 use Rattle.rebuild.specs.LostStrips.{lost-decided}
@@ -60,10 +61,6 @@ module _ (L : Layout) (e : ℕ) (lost : ℕ → Bool) where
 pub data Ended (L : Layout) (e : ℕ) (lost : ℕ → Bool) (before after : List ℕ) : Answer → Type 0 where
   is-mended : Mended L e lost before after → Ended L e lost before after Done
   is-cleared : Cleared L e lost before after → Ended L e lost before after (Refused NoSound)
-
--- an answer is not both
-pub never : (y : Refusal) → _≡_ {A = Answer} Done (Refused y) → ⊥
-never y q = let z : _≡_ {A = ℕ} 0 1 = cc in omega arith
 
 module _ (n r s e mask : ℕ) (b : List ℕ) (k : Accepted n r s e (length b) mask) where
   fair : Fair (shift n r s)
@@ -107,14 +104,14 @@ module _ (n r s e mask : ℕ) (b : List ℕ) (k : Accepted n r s e (length b) ma
       where
         go : (z : Answer) → Ended (shift n r s) e (lost-in mask) b a z → (z ≡ Done) ↔ Agreeable (shift n r s) e (lost-in mask) b
         go z (is-mended m) = (λ q. mended-agreeable (shift n r s) e (lost-in mask) b a m, λ g. refl)
-        go z (is-cleared c) = (λ q. absurd (never NoSound (sym q)), λ g. absurd (c .none g))
+        go z (is-cleared c) = (λ q. done-refused NoSound (sym q), λ g. absurd (c .none g))
 
     -- 10 exactly when none does
     pub rebuild-exactly : (x ≡ Refused NoSound) ↔ (Agreeable (shift n r s) e (lost-in mask) b → ⊥)
     rebuild-exactly = go x (ended a x w)
       where
         go : (z : Answer) → Ended (shift n r s) e (lost-in mask) b a z → (z ≡ Refused NoSound) ↔ (Agreeable (shift n r s) e (lost-in mask) b → ⊥)
-        go z (is-mended m) = (λ q. absurd (never NoSound q), λ f. absurd (f (mended-agreeable (shift n r s) e (lost-in mask) b a m)))
+        go z (is-mended m) = (λ q. done-refused NoSound q, λ f. absurd (f (mended-agreeable (shift n r s) e (lost-in mask) b a m)))
         go z (is-cleared c) = (λ q. c .none, λ f. refl)
 
     -- a sound stripe with anything in its lost strips: the answer is 0, and the stripe is back

@@ -19,10 +19,10 @@ use Rattle.shape.specs.Refusal.{number-of}
 use Rattle.shape.specs.Limits.{Limits}
 use Rattle.shape.specs.Mask.{lost-in, above-test}
 use Rattle.shape.specs.Call.{bytes-of, call-number, Answered}
+use Rattle.shape.specs.CallLaws.{done-refused}
 use Rattle.shape.specs.JudgedCall.{unnamed, last-number}
 use Rattle.rebuild.specs.Rebuild.{rebuild-number, Mended, Cleared, Rebuilds}
 use Rattle.rebuild.specs.RebuildNumber.{Accepted, Numbered, early, late, numbered, accepted-number}
-use Rattle.rebuild.specs.RebuildLaws.{never}
 
 -- a refusal of this number has no pair to name
 plain : (n r s number : ℕ) (y : Refusal) → number-of y ≡ number → number ≢ 5 → Answered n r s number (Refused y)
@@ -38,7 +38,7 @@ module _ (n r s e mask : ℕ) (b : List ℕ) where
   rebuilds-refused y h =
       record {
         answer = h 10;
-        done = λ q. absurd (never y (sym q));
+        done = λ q. done-refused y (sym q);
         none = λ q. absurd (other (it q) (numbered n r s e (length b) mask));
         refused = λ z q ne. refl;
       }
@@ -78,10 +78,10 @@ module _ (n r s e mask : ℕ) (b : List ℕ) where
     pub rebuilds-done : Mended (shift n r s) e (lost-in mask) b a → Rebuilds n r s e mask b a Done
     rebuilds-done m =
         record {
-          answer = record { is = sym (accepted-number n r s e (length b) mask 0 k); named = λ z v. absurd (never z v) };
+          answer = record { is = sym (accepted-number n r s e (length b) mask 0 k); named = λ z v. done-refused z v };
           done = λ z. m;
-          none = λ z. absurd (never NoSound z);
-          refused = λ y z. absurd (never y z);
+          none = λ z. done-refused NoSound z;
+          refused = λ y z. done-refused y z;
         }
 
     -- 10
@@ -90,7 +90,7 @@ module _ (n r s e mask : ℕ) (b : List ℕ) where
         record {
           answer = subst (λ (m : ℕ). Answered n r s m (Refused NoSound)) (sym (accepted-number n r s e (length b) mask 10 k))
               (plain n r s 10 NoSound refl (omega arith));
-          done = λ z. absurd (never NoSound (sym z));
+          done = λ z. done-refused NoSound (sym z);
           none = λ z. c;
           refused = λ y z ne. absurd (ne (it y z));
         }

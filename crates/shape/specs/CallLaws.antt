@@ -12,6 +12,10 @@ use Rattle.shape.specs.declared.refusal.Answer.the-variants.{Done, Refus
 use Rattle.shape.specs.Refusal.{number-of, lower-of, upper-of, refusal-some, number-determined, weak-of}
 use Rattle.shape.specs.Call.{Named, Answered}
 
+-- an answer is not both
+pub done-refused : {A : Type 0} (y : Refusal) → _≡_ {A = Answer} Done (Refused y) → A
+done-refused y q = absurd (let z : _≡_ {A = ℕ} 0 1 = cc in omega arith)
+
 -- refusals of one number, each with the first failing pair where it has one, are the same
 pub named-same : (n r s : ℕ) (x y : Refusal) → number-of x ≡ number-of y → Named n r s x → Named n r s y → x ≡ y
 named-same n r s x y same p q = go (ℕ-discrete (number-of x) 5)

@@ -28,8 +28,8 @@ use Rattle.shape.specs.Judge.{shape-number, judged-number, Judges}
 use Rattle.shape.specs.Pairs.{NoPair}
 
 -- an answer is not both
-pub never : {A : Type 0} (h : Shape) (b : ℕ) (x : Refusal) → _≡_ {A = Judged} (Good h b) (Refused x) → A
-never h b x z = absurd (let q : _≡_ {A = ℕ} 0 1 = cc in omega arith)
+pub good-refused : {A : Type 0} (h : Shape) (b : ℕ) (x : Refusal) → _≡_ {A = Judged} (Good h b) (Refused x) → A
+good-refused h b x z = absurd (let q : _≡_ {A = ℕ} 0 1 = cc in omega arith)
 
 module _ (n r s e : ℕ) where
   -- ---- how it is met
@@ -37,7 +37,7 @@ module _ (n r s e : ℕ) where
   pub judges-refused : (y : Limited) → Within n r s e y → (x : Refusal) → y ≡ limited.Refused x → Judges n r s e (Refused x)
   judges-refused y w x q =
       let m = refused-number n r s e y w x q (pick (good-test n r s) 0 5) in
-      record { number = sym (m .0); good = λ h b z. never h b x (sym z); weak = λ a b z. absurd (low (ap judged-number z) (m .1)) }
+      record { number = sym (m .0); good = λ h b z. good-refused h b x (sym z); weak = λ a b z. absurd (low (ap judged-number z) (m .1)) }
     where
       low : number-of x ≡ 5 → number-of x ≤ 4 → ⊥
       low k l = omega arith
@@ -50,13 +50,13 @@ module _ (n r s e : ℕ) where
     number-weak f = limits-number n r s e (pick (good-test n r s) 0 5) l ∙ ap (λ (t : Bool). pick t 0 5) (weak-tested n r s f)
 
     pub judges-good : bound.Good n r s → (b : ℕ) → b ≡ e * (n * (r + 1) + r) → Judges n r s e (Good (record { n = n; r = r; s = s; e = e }) b)
-    judges-good g b q = record { number = sym (number-good g); good = λ h c z. (cc, cc); weak = λ a c z. never _ _ (Weak a c) z }
+    judges-good g b q = record { number = sym (number-good g); good = λ h c z. (cc, cc); weak = λ a c z. good-refused _ _ (Weak a c) z }
 
     pub judges-weak : (a b : ℕ) → FirstPair (shift n r s) a b → Judges n r s e (Refused (Weak a b))
     judges-weak a b p =
         record {
           number = sym (number-weak (λ g. exact n r s (l .s-low) (l .s-high) .0 g a b (p .order) (p .within) (p .fails)));
-          good = λ h c z. never h c (Weak a b) (sym z);
+          good = λ h c z. good-refused h c (Weak a b) (sym z);
           weak = λ c d z. subst (λ (v : ℕ). FirstPair (shift n r s) c v) (upper c d z) (subst (λ (v : ℕ). FirstPair (shift n r s) v b) (lower c d z) p);
         }
       where

@@ -22,4 +22,3 @@ pub mod JudgeLaws
 pub mod JudgedCall
 pub mod JudgeExact
 pub mod PairsLaws
-pub mod ShutOut

@@ -16,18 +16,21 @@ use Rattle.shape.specs.declared.Judged.the-variants as judged
 use Rattle.shape.specs.Limits.{Limits}
 use Rattle.shape.specs.Call.{bytes-of, Answered}
 use Rattle.shape.specs.Judge.{judged-answer}
+use Rattle.finding.specs.declared.Counts.{Counts}
+use Rattle.finding.specs.Found.{Finds}
 use Rattle.stripe.specs.declared.scrubbing.Scrubbed.{Scrubbed}
+use Rattle.stripe.specs.declared.scrubbing.Scrubbed.the-variants.{Counted}
 use Rattle.stripe.specs.Opened.{Opens}
 use Rattle.stripe.specs.Encode.{EncodedFrom, Encodes}
 use Rattle.stripe.specs.EncodeDetermined.{encodes-refused, encodes-done}
-use Rattle.stripe.specs.Write.{place-outside, write-number, written-over, Writes}
+use Rattle.patch.specs.Written.{written-over}
+use Rattle.stripe.specs.Write.{place-outside, write-number, Writes}
 use Rattle.stripe.specs.WriteNumber.{inside-place, answered-outside, answered-done}
 use Rattle.stripe.specs.WriteCall.{writes-refused, writes-done}
 use Rattle.stripe.specs.Read.{read-number, read-part}
 use Rattle.stripe.specs.ReadLaws.{reads-refused, reads-done}
-use Rattle.stripe.specs.Scrub.{Scrubs}
+use Rattle.stripe.specs.Scrub.{Scrubs, uncounted}
 use Rattle.stripe.specs.ScrubAnswers.{scrubs-refused, scrubs-counted}
-use Rattle.stripe.specs.Tally.{counted-of, uncounted}
 
 module _ (n r s e : ℕ) (b : List ℕ) (x : Judged) (o : Opens n r s e (length b) x) where
   -- ---- the shape is refused
@@ -102,6 +105,7 @@ module _ (n r s e : ℕ) (b : List ℕ) (x : Judged) (o : Opens n r s e (length 
     read-inside i j p t w =
         from-shape (λ n r s e. p ≡ take e (drop (X (shift n r s) i j * e) b)) w ∙ reads-done n r s e i j b (inside-answered i j 0 0 t)
 
-    pub scrub-counted : (z : Scrubbed) → z ≡ counted-of (shift (h .n) (h .r) (h .s)) (h .e) b → Scrubs n r s e b z
-    scrub-counted z w =
-        scrubs-counted n r s e b (o .opened h c q .limits) (o .opened h c q .good) z (o .opened h c q .sized) (from-shape (λ n r s e. z ≡ counted-of (shift n r s) e b) w)
+    pub scrub-counted : (x : Counts) → Finds (shift (h .n) (h .r) (h .s)) (h .e) b x → Scrubs n r s e b (Counted (x .rows) (x .diagonals) (x .finding))
+    scrub-counted x w =
+        scrubs-counted n r s e b (o .opened h c q .limits) (o .opened h c q .good) x (o .opened h c q .sized)
+        (from-shape (λ n r s e. Finds (shift n r s) e b x) w)

@@ -13,8 +13,8 @@ use Rattle.shape.specs.declared.refusal.Answer.the-variants.{Done, Refused}
 use Rattle.shape.specs.Limits.{Limits}
 use Rattle.shape.specs.JudgedCall.{last-number}
 use Rattle.shape.specs.Call.{bytes-of, answer-number, call-number, Answered}
-use Rattle.shape.specs.CallLaws.{answered-same}
-use Rattle.stripe.specs.OpenedLaws.{done-refused, call-zero}
+use Rattle.shape.specs.CallLaws.{done-refused, answered-same}
+use Rattle.stripe.specs.OpenedLaws.{call-zero}
 use Rattle.stripe.specs.Encode.{EncodedFrom, Encodes}
 use Rattle.stripe.specs.EncodeLaws.{encoded-same}
 

@@ -10,9 +10,6 @@ pub mod EncodeLaws
 pub mod EncodeDetermined
 -- Write and read.
 pub mod Write
-pub mod Patch
-pub mod PatchLaws
-pub mod WrittenLaws
 pub mod WriteLaws
 pub mod WriteNumber
 pub mod WriteCall
@@ -20,14 +17,6 @@ pub mod Read
 pub mod ReadLaws
 -- Scrub.
 pub mod Scrub
-pub mod Tally
-pub mod TallyLaws
-pub mod ScrubLaws
-pub mod FoundLaws
 pub mod ScrubAnswers
-pub mod LinesOf
-pub mod ChangedAt
 pub mod ScrubTheorems
-pub mod ScrubCases
 pub mod Calls
-pub mod ShutOut

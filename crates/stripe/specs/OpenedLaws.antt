@@ -20,24 +20,20 @@ use Rattle.shape.specs.LimitsLaws.{first-outside}
 use Rattle.shape.specs.GoodTest.{good-test, test-good}
 use Rattle.shape.specs.Call.{bytes-of, call-number, Answered}
 use Rattle.shape.specs.Judge.{Judges}
-use Rattle.shape.specs.JudgeLaws.{never}
+use Rattle.shape.specs.JudgeLaws.{good-refused}
 use Rattle.shape.specs.JudgedCall.{refused-answered, good-limits, good-good, length-answered}
 use Rattle.stripe.specs.Opened.{Opens}
 
--- an answer of a call is not both
-pub done-refused : {A : Type 0} (y : Refusal) → _≡_ {A = Answer} answer.Done (answer.Refused y) → A
-done-refused y q = absurd (let z : _≡_ {A = ℕ} 0 1 = cc in omega arith)
-
 module _ (n r s e len : ℕ) (x : Judged) (j : Judges n r s e x) where
   pub opens-refused : (y : Refusal) → x ≡ judged.Refused y → Opens n r s e len x
-  opens-refused y q = record { opened = λ h b w. never h b y (sym w ∙ q); size = λ h b w. never h b y (sym w ∙ q); refused = λ z w last. refused-answered n r s e x j z w len last }
+  opens-refused y q = record { opened = λ h b w. good-refused h b y (sym w ∙ q); size = λ h b w. good-refused h b y (sym w ∙ q); refused = λ z w last. refused-answered n r s e x j z w len last }
 
   module _ (h : Shape) (b : ℕ) (q : x ≡ judged.Good h b) where
     pub opens-length : len ≢ b → Opens n r s e len (judged.Refused Length)
     opens-length ne =
         record {
-          opened = λ g c w. never g c Length (sym w);
-          size = λ g c w. never g c Length (sym w);
+          opened = λ g c w. good-refused g c Length (sym w);
+          size = λ g c w. good-refused g c Length (sym w);
           refused = λ z w last.
               subst (λ (y : Refusal). Answered n r s (call-number n r s e len last) (answer.Refused y)) (it z w)
               (length-answered n r s e (good-limits n r s e x j h b q) (good-good n r s e x j h b q) len last (λ z. ne (z ∙ sym (j .good h b q .1))));
@@ -51,7 +47,7 @@ module _ (n r s e len : ℕ) (x : Judged) (j : Judges n r s e x) where
         record {
           opened = λ g c w. record { shape = same g c w ∙ j .good h b q .0; limits = good-limits n r s e x j h b q; good = good-good n r s e x j h b q; sized = l ∙ j .good h b q .1 };
           size = λ g c w. all g c w ∙ sym l;
-          refused = λ z w last. never h b z w;
+          refused = λ z w last. good-refused h b z w;
         }
       where
         all : (g : Shape) (c : ℕ) → judged.Good h b ≡ judged.Good g c → c ≡ b

@@ -12,15 +12,16 @@ use Rattle.shape.specs.declared.refusal.Answer.the-variants as answer
 use Rattle.shape.specs.Limits.{Limits}
 use Rattle.shape.specs.JudgedCall.{last-number}
 use Rattle.shape.specs.Call.{bytes-of, call-number, Answered}
-use Rattle.stripe.specs.declared.scrubbing.Finding.{Finding}
+use Rattle.finding.specs.declared.Finding.{Finding}
+use Rattle.finding.specs.declared.Counts.{Counts}
+use Rattle.finding.specs.Found.{Finds}
 use Rattle.stripe.specs.declared.scrubbing.Scrubbed.{Scrubbed}
 use Rattle.stripe.specs.declared.scrubbing.Scrubbed.the-variants.{Counted, Refused}
-use Rattle.stripe.specs.Scrub.{scrubbed-number, Scrubs}
-use Rattle.stripe.specs.Tally.{counted-of}
+use Rattle.stripe.specs.Scrub.{scrubbed-number, Scrubs, counted-of}
 
 -- an answer is not both
-never : {A : Type 0} (y : Refusal) (p q : ℕ) (f : Finding) → Refused y ≡ Counted p q f → A
-never y p q f w = absurd (let z : _≡_ {A = ℕ} 0 1 = cc in omega arith)
+refused-counted : {A : Type 0} (y : Refusal) (p q : ℕ) (f : Finding) → Refused y ≡ Counted p q f → A
+refused-counted y p q f w = absurd (let z : _≡_ {A = ℕ} 0 1 = cc in omega arith)
 
 module _ (n r s e : ℕ) (b : List ℕ) where
   -- no line holds
@@ -28,7 +29,7 @@ module _ (n r s e : ℕ) (b : List ℕ) where
   scrubs-done x z q =
       record {
         number = ap scrubbed-number q ∙ sym z;
-        named = λ y w. never y _ _ _ (sym w ∙ q);
+        named = λ y w. refused-counted y _ _ _ (sym w ∙ q);
         rows = λ p d f w. cc;
         diagonals = λ p d f w. cc;
         finds = λ p d f w. cc;
@@ -40,9 +41,9 @@ module _ (n r s e : ℕ) (b : List ℕ) where
       record {
         number = a .is;
         named = λ z w. a .named z (cc);
-        rows = λ p d f w. never y p d f w;
-        diagonals = λ p d f w. never y p d f w;
-        finds = λ p d f w. never y p d f w;
+        rows = λ p d f w. refused-counted y p d f w;
+        diagonals = λ p d f w. refused-counted y p d f w;
+        finds = λ p d f w. refused-counted y p d f w;
       }
 
   -- what a scrub that is not refused answers
@@ -50,5 +51,8 @@ module _ (n r s e : ℕ) (b : List ℕ) where
   counted-is p d f c = cc (c .rows p d f refl, c .diagonals p d f refl, c .finds p d f refl)
 
   -- a good shape and the stripe's size
-  pub scrubs-counted : Limits n r s e → Good n r s → (x : Scrubbed) → length b ≡ bytes-of n r e → x ≡ counted-of (shift n r s) e b → Scrubs n r s e b x
-  scrubs-counted l g x q w = scrubs-done x (last-number n r s e l g (length b) 0 q) w
+  pub scrubs-counted : Limits n r s e → Good n r s → (x : Counts) → length b ≡ bytes-of n r e → Finds (shift n r s) e b x
+      → Scrubs n r s e b (Counted (x .rows) (x .diagonals) (x .finding))
+  scrubs-counted l g x q w =
+      scrubs-done (Counted (x .rows) (x .diagonals) (x .finding)) (last-number n r s e l g (length b) 0 q)
+      (cc (w .rows-are, w .diagonals-are, w .finding-is))

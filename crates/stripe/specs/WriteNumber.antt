@@ -17,7 +17,8 @@ use Rattle.shape.specs.Refusal.{number-of}
 use Rattle.shape.specs.Limits.{Limits}
 use Rattle.shape.specs.Call.{bytes-of, Answered}
 use Rattle.shape.specs.JudgedCall.{unnamed, last-number}
-use Rattle.stripe.specs.OpenedLaws.{done-refused, call-zero}
+use Rattle.shape.specs.CallLaws.{done-refused}
+use Rattle.stripe.specs.OpenedLaws.{call-zero}
 use Rattle.stripe.specs.Write.{place-outside, write-number}
 
 -- ---- line 9

@@ -3,9 +3,7 @@ mod encoding;
 mod place;
 mod reading;
 mod scrubbing;
-mod writing;
 
-pub use scrubbing::Finding;
 pub use scrubbing::Scrubbed;
 use shape::Answer;
 use shape::Judged;
@@ -66,7 +64,7 @@ pub fn write(
     if place::outside(shape, row, strip, offset, run.len()) {
         return Answer::Refused(Refusal::Place);
     }
-    writing::write_shape(shape, stripe, row, strip, offset, run);
+    patch::write_shape(shape, stripe, row, strip, offset, run);
     Answer::Done
 }
 
@@ -124,5 +122,9 @@ pub fn scrub(n: usize, r: usize, s: usize, e: usize, stripe: &[u8]) -> Scrubbed
     let Judged::Good(shape, _) = judged else {
         return scrubbing::refused(judged);
     };
-    scrubbing::scrub_shape(shape, stripe)
+    let counts = finding::scrub_shape(shape, stripe);
+    let a = counts.rows;
+    let b = counts.diagonals;
+    let x = counts.finding;
+    Scrubbed::Counted(a, b, x)
 }

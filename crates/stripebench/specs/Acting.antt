@@ -13,7 +13,7 @@ use Rattle.shape.specs.Mask.{lost-in}
 use Rattle.shape.specs.Call.{bytes-of, call-number}
 use Rattle.stripe.specs.Write.{write-number, written}
 use Rattle.stripe.specs.Read.{read-number, read-part}
-use Rattle.stripe.specs.Scrub.{wrong-row, wrong-diagonal}
+use Rattle.finding.specs.Found.{wrong-row, wrong-diagonal}
 use Rattle.rebuild.specs.Rebuild.{rebuild-number}
 use Rattle.stripebench.specs.declared.acting.Current.{Current}
 use Rattle.stripebench.specs.declared.acting.Current.the-variants.{Unset, Set}

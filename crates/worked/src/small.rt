@@ -1,7 +1,7 @@
 // Cases A, B and D of 01, worked by hand there, with what scrub and read say of them and what is refused.
+use finding::Finding;
 use libc::STDOUT_FILENO;
 use shape::Answer;
-use stripe::Finding;
 use stripe::Scrubbed;
 
 // The hexadecimal digit of x; a question mark where there is none.

@@ -1,7 +1,7 @@
 -- `stripe::scrubbing::refused` meets its contract, case by case. Assumes nothing.
 use borrow.Author.Needs.{needs}
 use mathlib.Core.Path.{sym, ap}
-use Rattle.stripe.specs.Tally.{uncounted}
+use Rattle.stripe.specs.Scrub.{uncounted}
 use Rattle.stripe.proofs.scrubbing.refused.Statement.{statement}
 use Rattle.stripe.proofs.scrubbing.refused.Tie as tie
 
