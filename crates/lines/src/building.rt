@@ -2,18 +2,19 @@
 use crate::listing::line;
 use shape::Shape;
 ghost use mathlib.Core.Path.{_≡_};
-ghost use Prim.Native.Nat.{_+_, _*_, _<_};
+ghost use Prim.Native.Nat.{_+_, _<_};
 ghost use lib.ListN.{length};
-ghost use Rattle.code.specs.Layout.{line, places};
+ghost use Rattle.code.specs.Layout.{line};
 ghost use Rattle.code.specs.Shift.{shift};
 ghost use Rattle.shape.specs.Limits.{Limits};
+ghost use Rattle.shape.specs.Call.{bytes-of};
 ghost use Rattle.lines.specs.Others.{Builds};
 
 // Place v of line t becomes the sum of the others; the last one takes its room in the list.
 pub fn build(shape: Shape, t: usize, v: usize, stripe: &mut [u8])
     requires { ⌜ Limits (shape .n) (shape .r) (shape .s) (shape .e) ⌝ }
     requires line { ⌜ (t < shape .r + shape .n) × (v < length (line (shift (shape .n) (shape .r) (shape .s)) t)) ⌝ }
-    requires size { ⌜ length (now stripe) ≡ shape .e * places (shift (shape .n) (shape .r) (shape .s)) ⌝ }
+    requires size { ⌜ length (now stripe) ≡ bytes-of (shape .n) (shape .r) (shape .e) ⌝ }
     ensures { λ _. ⌜ Builds (shift (shape .n) (shape .r) (shape .s)) (shape .e) t v (now (stripe .entry)) (now (stripe .exit)) ⌝ }
 {
     let mut offs = [0usize; 33];

@@ -3,9 +3,9 @@ use shape::Shape;
 ghost use mathlib.Core.Path.{_≡_};
 ghost use Prim.Native.Nat.{_+_, _*_, _≤_};
 ghost use lib.ListN.{length};
-ghost use Rattle.code.specs.Layout.{places};
 ghost use Rattle.code.specs.Shift.{shift};
 ghost use Rattle.shape.specs.Limits.{Limits};
+ghost use Rattle.shape.specs.Call.{bytes-of};
 ghost use Rattle.element.specs.Filled.{Filled};
 ghost use Rattle.rebuild.specs.Clear.{Rows, Clears};
 
@@ -32,7 +32,7 @@ pub fn fill(stripe: &mut [u8], d: usize, m: usize, value: u8)
 pub fn clear(shape: Shape, strip: usize, stripe: &mut [u8])
     requires { ⌜ Limits (shape .n) (shape .r) (shape .s) (shape .e) ⌝ }
     requires strip { ⌜ strip ≤ shape .n ⌝ }
-    requires size { ⌜ length (now stripe) ≡ shape .e * places (shift (shape .n) (shape .r) (shape .s)) ⌝ }
+    requires size { ⌜ length (now stripe) ≡ bytes-of (shape .n) (shape .r) (shape .e) ⌝ }
     ensures { λ _. ⌜ Clears (shift (shape .n) (shape .r) (shape .s)) (shape .e) strip (now (stripe .entry)) (now (stripe .exit)) ⌝ }
 {
     let m = rows(shape, strip);

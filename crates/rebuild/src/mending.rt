@@ -7,13 +7,14 @@ use shape::lost::first_lost;
 use shape::lost::last_lost;
 ghost use mathlib.Core.Path.{_≡_};
 ghost use mathlib.Core.Bool.{false};
-ghost use Prim.Native.Nat.{ℕ, _*_, _≤_};
+ghost use Prim.Native.Nat.{ℕ, _≤_};
 ghost use lib.ListN.{length, getD};
 ghost use Rattle.code.specs.Below.{count};
-ghost use Rattle.code.specs.Layout.{pair, places};
+ghost use Rattle.code.specs.Layout.{pair};
 ghost use Rattle.code.specs.Shift.{shift};
 ghost use Rattle.code.specs.Bound.{Good};
 ghost use Rattle.shape.specs.Limits.{Limits};
+ghost use Rattle.shape.specs.Call.{bytes-of};
 ghost use Rattle.shape.specs.Mask.{lost-in, above-test};
 ghost use Rattle.rebuild.specs.PlanRun.{PlanRun, Mends};
 
@@ -21,7 +22,7 @@ ghost use Rattle.rebuild.specs.PlanRun.{PlanRun, Mends};
 fn run(shape: Shape, a: usize, b: usize, stripe: &mut [u8], used: &mut [u8; 64])
     requires { ⌜ Limits (shape .n) (shape .r) (shape .s) (shape .e) × Good (shape .n) (shape .r) (shape .s) ⌝ }
     requires strips { ⌜ (a ≤ b) × (b ≤ shape .n) ⌝ }
-    requires size { ⌜ length (now stripe) ≡ shape .e * places (shift (shape .n) (shape .r) (shape .s)) ⌝ }
+    requires size { ⌜ length (now stripe) ≡ bytes-of (shape .n) (shape .r) (shape .e) ⌝ }
     requires used { ⌜ (length (now used) ≡ 64) × ((t : ℕ) → getD (now used) t 0 ≡ 0) ⌝ }
     ensures { λ _. ⌜ PlanRun (shift (shape .n) (shape .r) (shape .s)) (shape .e) (pair a b) (now (stripe .entry)) (now (stripe .exit)) (now (used .exit)) ⌝ }
 {
@@ -36,7 +37,7 @@ fn run(shape: Shape, a: usize, b: usize, stripe: &mut [u8], used: &mut [u8; 64])
 fn mend_pair(shape: Shape, a: usize, b: usize, stripe: &mut [u8]) -> bool
     requires { ⌜ Limits (shape .n) (shape .r) (shape .s) (shape .e) × Good (shape .n) (shape .r) (shape .s) ⌝ }
     requires strips { ⌜ (a ≤ b) × (b ≤ shape .n) ⌝ }
-    requires size { ⌜ length (now stripe) ≡ shape .e * places (shift (shape .n) (shape .r) (shape .s)) ⌝ }
+    requires size { ⌜ length (now stripe) ≡ bytes-of (shape .n) (shape .r) (shape .e) ⌝ }
     ensures { λ x. ⌜ Mends (shift (shape .n) (shape .r) (shape .s)) (shape .e) (pair a b) (now (stripe .entry)) (now (stripe .exit)) x ⌝ }
 {
     let mut used = [0u8; 64];
@@ -54,7 +55,7 @@ fn mend_pair(shape: Shape, a: usize, b: usize, stripe: &mut [u8]) -> bool
 pub fn mend(shape: Shape, stripe: &mut [u8], mask: u64) -> bool
     requires { ⌜ Limits (shape .n) (shape .r) (shape .s) (shape .e) × Good (shape .n) (shape .r) (shape .s) ⌝ }
     requires lost { ⌜ (above-test mask (shape .n) ≡ false) × (count 64 (lost-in mask) ≤ 2) ⌝ }
-    requires size { ⌜ length (now stripe) ≡ shape .e * places (shift (shape .n) (shape .r) (shape .s)) ⌝ }
+    requires size { ⌜ length (now stripe) ≡ bytes-of (shape .n) (shape .r) (shape .e) ⌝ }
     ensures { λ x. ⌜ Mends (shift (shape .n) (shape .r) (shape .s)) (shape .e) (lost-in mask) (now (stripe .entry)) (now (stripe .exit)) x ⌝ }
 {
     if mask == 0 {

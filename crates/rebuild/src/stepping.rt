@@ -3,9 +3,9 @@ use shape::Shape;
 ghost use mathlib.Core.Path.{_≡_};
 ghost use Prim.Native.Nat.{ℕ, _+_, _*_, _≤_, _<_};
 ghost use lib.ListN.{length, getD};
-ghost use Rattle.code.specs.Layout.{places};
 ghost use Rattle.code.specs.Shift.{shift};
 ghost use Rattle.shape.specs.Limits.{Limits};
+ghost use Rattle.shape.specs.Call.{bytes-of};
 ghost use Rattle.walker.specs.Written.{step, written};
 ghost use Rattle.rebuild.specs.Running.{Running};
 ghost use Rattle.rebuild.specs.Stepping.{Shaped, Stepped};
@@ -15,7 +15,7 @@ ghost use Rattle.rebuild.specs.Stepping.{Shaped, Stepped};
 fn run_step(shape: Shape, kind: u8, row: usize, strip: usize, stripe: &mut [u8]) -> usize
     requires { ⌜ Limits (shape .n) (shape .r) (shape .s) (shape .e) ⌝ }
     requires shaped { ⌜ Shaped (shape .n) (shape .r) (step kind row strip) ⌝ }
-    requires size { ⌜ length (now stripe) ≡ shape .e * places (shift (shape .n) (shape .r) (shape .s)) ⌝ }
+    requires size { ⌜ length (now stripe) ≡ bytes-of (shape .n) (shape .r) (shape .e) ⌝ }
     ensures { λ t. ⌜ Stepped (shift (shape .n) (shape .r) (shape .s)) (shape .e) (step kind row strip) (now (stripe .entry)) (now (stripe .exit)) t ⌝ }
 {
     if kind == 2 {
@@ -42,7 +42,7 @@ pub fn run_steps(
 )
     requires { ⌜ Limits (shape .n) (shape .r) (shape .s) (shape .e) ⌝ }
     requires steps { ⌜ (count ≤ 66) × ((u : ℕ) → u < count → Shaped (shape .n) (shape .r) (written (now steps) u)) ⌝ }
-    requires size { ⌜ length (now stripe) ≡ shape .e * places (shift (shape .n) (shape .r) (shape .s)) ⌝ }
+    requires size { ⌜ length (now stripe) ≡ bytes-of (shape .n) (shape .r) (shape .e) ⌝ }
     requires used { ⌜ (length (now used) ≡ 64) × ((t : ℕ) → getD (now used) t 0 ≡ 0) ⌝ }
     ensures { λ _. ⌜ Running (shift (shape .n) (shape .r) (shape .s)) (shape .e) (written (now (steps .entry))) count (now (stripe .entry)) (now (stripe .exit)) (now (used .exit)) ⌝ }
 {

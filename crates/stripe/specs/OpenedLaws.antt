@@ -11,7 +11,6 @@ use Rattle.code.specs.Bound.{Good}
 use Rattle.shape.specs.declared.limits.Shape.{Shape}
 use Rattle.shape.specs.declared.refusal.Refusal.{Refusal}
 use Rattle.shape.specs.declared.refusal.Refusal.the-variants.{Length}
-use Rattle.shape.specs.declared.refusal.Answer.{Answer}
 use Rattle.shape.specs.declared.refusal.Answer.the-variants as answer
 use Rattle.shape.specs.declared.Judged.{Judged}
 use Rattle.shape.specs.declared.Judged.the-variants as judged

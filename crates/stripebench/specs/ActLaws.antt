@@ -7,7 +7,6 @@ use native.Mathlib.Decide.{ℕ-discrete}
 use native.Mathlib.Omega.{arith}
 use lib.ListN.{length, getD, take, drop}
 use lib.Seq.{length-front, take-at, length-take-le}
-use Rattle.code.specs.Place.{at}
 use Rattle.code.specs.Shift.{shift}
 use Rattle.code.specs.ShiftLaws.{shift-fair}
 use Rattle.shape.specs.declared.limits.Shape.{Shape}

@@ -9,9 +9,10 @@ ghost use mathlib.Core.Bool.{false};
 ghost use Prim.Native.Nat.{_*_, _≤_};
 ghost use lib.ListN.{length};
 ghost use Rattle.code.specs.Below.{count};
-ghost use Rattle.code.specs.Layout.{pair, places};
+ghost use Rattle.code.specs.Layout.{pair};
 ghost use Rattle.code.specs.Shift.{shift};
 ghost use Rattle.shape.specs.Limits.{Limits};
+ghost use Rattle.shape.specs.Call.{bytes-of};
 ghost use Rattle.shape.specs.Mask.{lost-in, above-test};
 ghost use Rattle.stripebench.specs.Ruin.{Ruins};
 
@@ -19,7 +20,7 @@ ghost use Rattle.stripebench.specs.Ruin.{Ruins};
 fn ruin_strip(shape: Shape, strip: usize, stripe: &mut [u8])
     requires { ⌜ Limits (shape .n) (shape .r) (shape .s) (shape .e) ⌝ }
     requires strip { ⌜ strip ≤ shape .n ⌝ }
-    requires size { ⌜ length (now stripe) ≡ shape .e * places (shift (shape .n) (shape .r) (shape .s)) ⌝ }
+    requires size { ⌜ length (now stripe) ≡ bytes-of (shape .n) (shape .r) (shape .e) ⌝ }
     ensures { λ _. ⌜ Ruins (shift (shape .n) (shape .r) (shape .s)) (shape .e) (pair strip strip) (now (stripe .entry)) (now (stripe .exit)) ⌝ }
 {
     let m = rows(shape, strip);
@@ -32,7 +33,7 @@ fn ruin_strip(shape: Shape, strip: usize, stripe: &mut [u8])
 pub fn ruin(shape: Shape, mask: u64, stripe: &mut [u8])
     requires { ⌜ Limits (shape .n) (shape .r) (shape .s) (shape .e) ⌝ }
     requires lost { ⌜ (above-test mask (shape .n) ≡ false) × (count 64 (lost-in mask) ≤ 2) ⌝ }
-    requires size { ⌜ length (now stripe) ≡ shape .e * places (shift (shape .n) (shape .r) (shape .s)) ⌝ }
+    requires size { ⌜ length (now stripe) ≡ bytes-of (shape .n) (shape .r) (shape .e) ⌝ }
     ensures { λ _. ⌜ Ruins (shift (shape .n) (shape .r) (shape .s)) (shape .e) (lost-in mask) (now (stripe .entry)) (now (stripe .exit)) ⌝ }
 {
     if mask == 0 {

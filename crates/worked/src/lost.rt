@@ -52,8 +52,8 @@ pub(crate) fn case_c_changed() {
 }
 
 // n = 8, r = 3, s = 5 with strips 0 and 4 lost; its data byte of row i and strip j is 7 (8 i + j) + 1.
-pub(crate) fn three_chains() {
-    let mut s = [
+fn chains_lost() -> [u8; 35] {
+    [
         0xffu8,
         0xff,
         0xff,
@@ -89,7 +89,12 @@ pub(crate) fn three_chains() {
         0x30,
         0x70,
         0xd0,
-    ];
+    ]
+}
+
+// They are given back.
+pub(crate) fn three_chains() {
+    let mut s = chains_lost();
     let x = rebuild::rebuild(8, 3, 5, 1, &mut s, 17);
     line(b"chains", x, &s);
 }
