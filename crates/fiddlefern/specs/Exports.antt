@@ -21,6 +21,7 @@ use Rattle.shape.specs.Answers.{bytes-most}
 use Rattle.shape.specs.Call.{call-number, answer-number, Answered}
 use Rattle.shape.specs.Judge.{Judges}
 use Rattle.shape.specs.JudgedCall.{good-limits, answered-small}
+use Rattle.shape.specs.Mask.{lost-in, above-test}
 use Rattle.finding.specs.declared.Finding.{Finding}
 use Rattle.stripe.specs.declared.scrubbing.Scrubbed.{Scrubbed}
 use Rattle.stripe.specs.declared.scrubbing.Scrubbed.the-variants as scrubbed
@@ -28,9 +29,8 @@ use Rattle.stripe.specs.Encode.{Encodes}
 use Rattle.stripe.specs.Write.{place-outside, Writes}
 use Rattle.stripe.specs.Read.{read-number}
 use Rattle.stripe.specs.Scrub.{Scrubs}
-use Rattle.shape.specs.Mask.{lost-in, above-test}
-use Rattle.rebuild.specs.Rebuild.{last-of, Rebuilds}
 use Rattle.stripe.specs.WriteNumber.{Accepted, number-accepted}
+use Rattle.rebuild.specs.Rebuild.{last-of, Rebuilds}
 use Rattle.fiddlefern.specs.Packed.{refusal-packed, judged-packed, answer-packed, counted-packed, scrubbed-packed, SmallAnswer, JudgeAnswer, ReadAnswer, ScrubAnswer}
 
 -- ---- judge

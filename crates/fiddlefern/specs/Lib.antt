@@ -1,5 +1,5 @@
 -- What the contracts of the C boundary cite.
 pub mod Packed
-pub mod PackedLaws
 pub mod ScrubSmall
+pub mod PackedLaws
 pub mod Exports

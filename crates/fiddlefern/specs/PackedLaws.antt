@@ -15,8 +15,8 @@ use Rattle.stripe.specs.WriteLaws.{write-determined}
 use Rattle.stripe.specs.ReadLaws.{read-check-determined}
 use Rattle.stripe.specs.ScrubTheorems.{scrub-determined}
 use Rattle.rebuild.specs.RebuildDetermined.{rebuild-determined}
-use Rattle.fiddlefern.specs.ScrubSmall.{finding-most}
 use Rattle.fiddlefern.specs.Packed.{refusal-packed, judged-packed, answer-packed, finding-values, counted-packed, scrubbed-packed, SmallFinding, JudgeAnswer, EncodeAnswer, WriteAnswer, ReadAnswer, ScrubAnswer, RebuildAnswer}
+use Rattle.fiddlefern.specs.ScrubSmall.{finding-most}
 
 -- ---- each part stands in bytes of its own
 

@@ -18,9 +18,9 @@ use Rattle.shape.specs.Limits.{Limits}
 use Rattle.shape.specs.JudgedCall.{named-small}
 use Rattle.finding.specs.declared.Finding.{Finding}
 use Rattle.finding.specs.declared.Finding.the-variants as finding
+use Rattle.finding.specs.Found.{wrong-row, wrong-diagonal, found}
 use Rattle.stripe.specs.declared.scrubbing.Scrubbed.{Scrubbed}
 use Rattle.stripe.specs.declared.scrubbing.Scrubbed.the-variants.{Counted, Refused}
-use Rattle.finding.specs.Found.{wrong-row, wrong-diagonal, found}
 use Rattle.stripe.specs.Scrub.{scrubbed-number, Scrubs}
 use Rattle.stripe.specs.OpenedLaws.{call-zero}
 use Rattle.fiddlefern.specs.Packed.{finding-values, SmallFinding}

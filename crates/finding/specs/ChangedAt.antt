@@ -17,8 +17,8 @@ use Rattle.code.specs.Below.{first}
 use Rattle.code.specs.BelowLaws.{none-some, one-some}
 use Rattle.code.specs.Sound.{Sound}
 use Rattle.code.specs.SoundLaws.{sound-balanced}
-use Rattle.finding.specs.Found.{wrong-row, wrong-diagonal}
 use Rattle.lines.specs.Unbalanced.{unbalanced}
+use Rattle.finding.specs.Found.{wrong-row, wrong-diagonal}
 use Rattle.finding.specs.Tally.{Tallied}
 use Rattle.finding.specs.TallyLaws.{tallied-same, tallied-one, tallied-none}
 use Rattle.finding.specs.WrongLaws.{row-wrong, diagonal-wrong}

@@ -1,4 +1,4 @@
--- The steps of a write: three additions are a patch, a patch after a patch is one, and what a patch leaves is determined. Assumes nothing.
+-- The steps of a write: three additions are a patch, a patch after a patch is one, and a change leaves no byte open. Assumes nothing.
 use mathlib.Core.Path.{_≡_, refl, sym, ap, ap₂, _∙_, subst}
 use mathlib.Core.Logic.{_≢_, _⊎_, inl, inr, ⊎-elim}
 use mathlib.Core.List.{List}

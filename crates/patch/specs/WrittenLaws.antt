@@ -18,8 +18,8 @@ use Rattle.code.specs.Place.{at, inside}
 use Rattle.code.specs.Layout.{Layout, Fair, X, H, U, places}
 use Rattle.code.specs.LayoutLaws.{X-below, H-below, U-below}
 use Rattle.code.specs.Change.{Changed}
-use Rattle.patch.specs.Written.{in-run, written-at, written-over}
 use Rattle.code.specs.Lookalikes.{sized-same}
+use Rattle.patch.specs.Written.{in-run, written-at, written-over}
 use Rattle.patch.specs.Patch.{Patched}
 use Rattle.patch.specs.PatchLaws.{X-not-H, X-not-U, H-not-U, changed-one}
 

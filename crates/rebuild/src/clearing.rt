@@ -4,9 +4,9 @@ ghost use mathlib.Core.Path.{_≡_};
 ghost use Prim.Native.Nat.{_+_, _*_, _≤_};
 ghost use lib.ListN.{length};
 ghost use Rattle.code.specs.Shift.{shift};
+ghost use Rattle.element.specs.Filled.{Filled};
 ghost use Rattle.shape.specs.Limits.{Limits};
 ghost use Rattle.shape.specs.Call.{bytes-of};
-ghost use Rattle.element.specs.Filled.{Filled};
 ghost use Rattle.rebuild.specs.Clear.{Rows, Clears};
 
 // The rows that a strip stores: the last one has no corner.

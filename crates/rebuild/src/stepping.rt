@@ -4,9 +4,9 @@ ghost use mathlib.Core.Path.{_≡_};
 ghost use Prim.Native.Nat.{ℕ, _+_, _*_, _≤_, _<_};
 ghost use lib.ListN.{length, getD};
 ghost use Rattle.code.specs.Shift.{shift};
+ghost use Rattle.walker.specs.Written.{step, written};
 ghost use Rattle.shape.specs.Limits.{Limits};
 ghost use Rattle.shape.specs.Call.{bytes-of};
-ghost use Rattle.walker.specs.Written.{step, written};
 ghost use Rattle.rebuild.specs.Running.{Running};
 ghost use Rattle.rebuild.specs.Stepping.{Shaped, Stepped};
 

@@ -8,10 +8,10 @@ use Rattle.code.specs.Sum.{sumTo}
 use Rattle.code.specs.Sound.{along}
 use Rattle.code.specs.Below.{some, count, first}
 use Rattle.code.specs.Shift.{diagonal, meets, shift}
-use Rattle.stripe.specs.declared.scrubbing.Scrubbed.{Scrubbed}
-use Rattle.stripe.specs.declared.scrubbing.Scrubbed.the-variants.{Counted}
 use Rattle.finding.specs.declared.Finding.the-variants as finding
 use Rattle.finding.specs.Found.{found}
+use Rattle.stripe.specs.declared.scrubbing.Scrubbed.{Scrubbed}
+use Rattle.stripe.specs.declared.scrubbing.Scrubbed.the-variants.{Counted}
 use Rattle.stripe.specs.Scrub.{counted-of}
 
 -- n=5, r=2, s=2, e=1

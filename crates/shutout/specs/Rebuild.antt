@@ -12,9 +12,9 @@ use Rattle.code.specs.Bound.{q, pr, searched}
 use Rattle.shape.specs.declared.refusal.Refusal.{Refusal}
 use Rattle.shape.specs.declared.refusal.Refusal.the-variants.{Mask, Many, NoSound}
 use Rattle.shape.specs.declared.refusal.Answer.the-variants.{Done, Refused}
-use Rattle.shutout.specs.CaseB.{case-b}
 use Rattle.shape.specs.CallLaws.{done-refused}
 use Rattle.rebuild.specs.Rebuild.{Rebuilds}
+use Rattle.shutout.specs.CaseB.{case-b}
 use Rattle.shutout.specs.Chains.{chains, whole, lost, chains-outcome}
 use Rattle.shutout.specs.CaseC.{strips, damaged, cleared, case-c-outcome}
 

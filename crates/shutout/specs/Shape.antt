@@ -1,4 +1,5 @@
--- Programs that the contracts shut out: each contract, applied to what that program would answer on a named shape, is absurd. Assumes nothing.
+-- Programs that the contracts of judge and of the walker shut out: each contract, applied to what that program would answer on a named shape,
+-- is absurd. Assumes nothing.
 use Prim.Native.Nat.{ℕ, zero, suc, _<_}
 use mathlib.Core.Path.{_≡_, refl, sym, ap, _∙_}
 use mathlib.Core.Logic.{_≢_, _⊎_, inl, inr}

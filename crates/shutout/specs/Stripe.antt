@@ -1,5 +1,5 @@
--- Programs that the contracts shut out, and that no edit of one line makes: each contract, applied to what that program would leave and answer
--- on a named stripe, is absurd. Assumes nothing.
+-- Programs that the contracts of encode, write, read and scrub shut out, and that no edit of one line makes: each contract, applied to what that
+-- program would leave and answer on a named stripe, is absurd. Assumes nothing.
 -- blank == the data of case A of 01 with every H and U zero    case-b == case B (CaseB)
 use mathlib.Core.Path.{_≡_, refl, ap}
 use mathlib.Core.List.{List, [], _∷_}
@@ -16,10 +16,10 @@ use Rattle.shape.specs.declared.refusal.Refusal.{Refusal}
 use Rattle.shape.specs.declared.refusal.Answer.the-variants.{Done, Refused}
 use Rattle.shape.specs.Refusal.{number-of, refusal-some}
 use Rattle.shape.specs.Call.{Answered}
+use Rattle.patch.specs.Written.{written-at, written-over}
 use Rattle.finding.specs.declared.Finding.{Finding}
 use Rattle.stripe.specs.declared.scrubbing.Scrubbed.the-variants as scrubbed
 use Rattle.stripe.specs.Encode.{Encodes}
-use Rattle.patch.specs.Written.{written-at, written-over}
 use Rattle.stripe.specs.Write.{written, Writes}
 use Rattle.stripe.specs.Read.{read-number, read-part}
 use Rattle.stripe.specs.Scrub.{Scrubs}

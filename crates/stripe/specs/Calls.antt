@@ -16,6 +16,7 @@ use Rattle.shape.specs.declared.Judged.the-variants as judged
 use Rattle.shape.specs.Limits.{Limits}
 use Rattle.shape.specs.Call.{bytes-of, Answered}
 use Rattle.shape.specs.Judge.{judged-answer}
+use Rattle.patch.specs.Written.{written-over}
 use Rattle.finding.specs.declared.Counts.{Counts}
 use Rattle.finding.specs.Found.{Finds}
 use Rattle.stripe.specs.declared.scrubbing.Scrubbed.{Scrubbed}
@@ -23,7 +24,6 @@ use Rattle.stripe.specs.declared.scrubbing.Scrubbed.the-variants.{Counte
 use Rattle.stripe.specs.Opened.{Opens}
 use Rattle.stripe.specs.Encode.{EncodedFrom, Encodes}
 use Rattle.stripe.specs.EncodeDetermined.{encodes-refused, encodes-done}
-use Rattle.patch.specs.Written.{written-over}
 use Rattle.stripe.specs.Write.{place-outside, write-number, Writes}
 use Rattle.stripe.specs.WriteNumber.{inside-place, answered-outside, answered-done}
 use Rattle.stripe.specs.WriteCall.{writes-refused, writes-done}

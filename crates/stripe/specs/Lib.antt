@@ -19,4 +19,5 @@ pub mod ReadLaws
 pub mod Scrub
 pub mod ScrubAnswers
 pub mod ScrubTheorems
+-- How each call meets its contract.
 pub mod Calls

@@ -18,14 +18,14 @@ use Rattle.code.specs.Sound.{Sound}
 use Rattle.shape.specs.Refusal.{refusal-some}
 use Rattle.shape.specs.CallLaws.{named-same}
 use Rattle.finding.specs.declared.Finding.the-variants as finding
-use Rattle.stripe.specs.declared.scrubbing.Scrubbed.{Scrubbed}
-use Rattle.stripe.specs.declared.scrubbing.Scrubbed.the-variants.{Counted, Refused}
 use Rattle.finding.specs.Found.{wrong-row, wrong-diagonal, found}
-use Rattle.stripe.specs.Scrub.{Scrubs, counted-of}
 use Rattle.finding.specs.FoundLaws.{found-sound, found-U, found-H, found-element, sound-counts}
-use Rattle.stripe.specs.ScrubAnswers.{counted-is}
 use Rattle.finding.specs.LinesOf.{X-row, X-diagonal, H-row, H-diagonal, U-row, U-diagonal}
 use Rattle.finding.specs.ChangedAt.{ChangedAt, one-row, no-row, one-diagonal, no-diagonal}
+use Rattle.stripe.specs.declared.scrubbing.Scrubbed.{Scrubbed}
+use Rattle.stripe.specs.declared.scrubbing.Scrubbed.the-variants.{Counted, Refused}
+use Rattle.stripe.specs.Scrub.{Scrubs, counted-of}
+use Rattle.stripe.specs.ScrubAnswers.{counted-is}
 
 -- ---- sound
 

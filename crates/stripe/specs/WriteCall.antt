@@ -16,10 +16,10 @@ use Rattle.shape.specs.declared.refusal.Answer.{Answer}
 use Rattle.shape.specs.declared.refusal.Answer.the-variants.{Done, Refused}
 use Rattle.shape.specs.Refusal.{refusal-some}
 use Rattle.shape.specs.Call.{answer-number, Answered}
-use Rattle.stripe.specs.Encode.{EncodedFrom}
 use Rattle.patch.specs.Written.{written-over}
-use Rattle.stripe.specs.Write.{write-number, written, Writes}
 use Rattle.patch.specs.WrittenLaws.{written-length}
+use Rattle.stripe.specs.Encode.{EncodedFrom}
+use Rattle.stripe.specs.Write.{write-number, written, Writes}
 use Rattle.stripe.specs.WriteLaws.{written-sums, written-sound, written-encoded, written-refused, written-done}
 use Rattle.stripe.specs.WriteNumber.{Accepted, number-accepted}
 

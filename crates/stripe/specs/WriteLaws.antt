@@ -20,11 +20,11 @@ use Rattle.code.specs.Change.{changed-line, changed-sound}
 use Rattle.code.specs.Shift.{shift}
 use Rattle.shape.specs.declared.refusal.Answer.{Answer}
 use Rattle.shape.specs.CallLaws.{answered-same}
-use Rattle.stripe.specs.Encode.{EncodedFrom}
 use Rattle.patch.specs.Written.{in-run, written-at, written-over}
+use Rattle.patch.specs.WrittenLaws.{written-length, written-changed}
+use Rattle.stripe.specs.Encode.{EncodedFrom}
 use Rattle.stripe.specs.Write.{write-number, written, Writes}
 use Rattle.stripe.specs.EncodeLaws.{encoded-same}
-use Rattle.patch.specs.WrittenLaws.{written-length, written-changed}
 
 module _ (L : Layout) (e i j o : ℕ) (run s : List ℕ) (F : Fair L) (li : i < L .r) (lj : j < L .n) (size : length s ≡ e * places L) where
   -- every line's sum stays, in every byte

@@ -10,8 +10,8 @@ use lib.Seq.{length-front, take-at, length-take-le}
 use Rattle.code.specs.Shift.{shift}
 use Rattle.code.specs.ShiftLaws.{shift-fair}
 use Rattle.shape.specs.declared.limits.Shape.{Shape}
-use Rattle.stripe.specs.Write.{write-number, written}
 use Rattle.patch.specs.WrittenLaws.{written-length}
+use Rattle.stripe.specs.Write.{write-number, written}
 use Rattle.stripe.specs.WriteLaws.{written-sound, written-refused, written-done}
 use Rattle.stripe.specs.WriteNumber.{number-accepted}
 use Rattle.stripebench.specs.declared.acting.Current.{Current}

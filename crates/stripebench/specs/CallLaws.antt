@@ -22,10 +22,10 @@ use Rattle.shape.specs.Refusal.{number-of}
 use Rattle.shape.specs.Mask.{lost-in, above-test}
 use Rattle.shape.specs.Call.{call-number, answer-number, Answered}
 use Rattle.shape.specs.JudgedCall.{last-number}
+use Rattle.shape.specs.CallLaws.{done-refused}
 use Rattle.finding.specs.declared.Finding.{Finding}
 use Rattle.stripe.specs.declared.scrubbing.Scrubbed.{Scrubbed}
 use Rattle.stripe.specs.declared.scrubbing.Scrubbed.the-variants as scrubbed
-use Rattle.shape.specs.CallLaws.{done-refused}
 use Rattle.stripe.specs.Write.{Writes}
 use Rattle.stripe.specs.WriteNumber.{number-accepted}
 use Rattle.stripe.specs.Read.{read-number, read-part}

@@ -6,8 +6,8 @@ use mathlib.Core.Path.{sym, subst}
 use Rattle.code.specs.Layout.{Fair}
 use Rattle.code.specs.Shift.{shift}
 use Rattle.code.specs.ShiftLaws.{shift-fair}
-use Rattle.shape.specs.Limits.{Limits}
 use Rattle.walker.specs.Written.{step}
+use Rattle.shape.specs.Limits.{Limits}
 use Rattle.rebuild.specs.SteppingLaws.{Where, two-where, four-where, else-where, builds-stepped}
 use Rattle.rebuild.proofs.stepping.run_step.Statement.{statement}
 use Rattle.rebuild.proofs.stepping.run_step.Tie as tie

@@ -5,8 +5,8 @@ use Prim.Native.Nat.{ℕ}
 use Rattle.code.specs.Layout.{Fair}
 use Rattle.code.specs.Shift.{shift}
 use Rattle.code.specs.ShiftLaws.{shift-fair}
-use Rattle.shape.specs.Limits.{Limits}
 use Rattle.walker.specs.Written.{step}
+use Rattle.shape.specs.Limits.{Limits}
 use Rattle.rebuild.specs.SteppingLaws.{two-where, four-where, else-where}
 use Rattle.worked.proofs.unused.line_of.Statement.{statement}
 use Rattle.worked.proofs.unused.line_of.Tie as tie
