@@ -1,14 +1,14 @@
 -- Laws of the sum along a diagonal, also where one strip or two hold all the data, and of what one strip has on it. Assumes nothing.
 -- x i j == the data of row i in strip j    y i == the data of row i in one strip
 use Prim.Native.Nat.{ℕ, _<_}
-use mathlib.Core.Path.{_≡_, sym, ap, _∙_}
+use mathlib.Core.Path.{_≡_, ap, _∙_}
 use mathlib.Core.Logic.{_≢_}
 use native.Mathlib.Decide.{ℕ-discrete}
 use lib.Dec.{eqb}
 use Rattle.code.specs.Xor.{_⊕_}
 use Rattle.code.specs.Sum.{sumTo, only}
-use Rattle.code.specs.SumLaws.{sumTo-ext, sumTo-nil, sumTo-add, sumTo-one, sumTo-two, sumTo-byte, only-yes, only-no, only-zero, only-byte}
-use Rattle.code.specs.Layout.{Layout, Latin}
+use Rattle.code.specs.SumLaws.{sumTo-ext, sumTo-nil, sumTo-add, sumTo-one, sumTo-two, sumTo-byte, only-no, only-zero, only-byte}
+use Rattle.code.specs.Layout.{Layout}
 use Rattle.code.specs.Sound.{along}
 
 -- the sum of what strip c has on diagonal d
@@ -55,14 +55,6 @@ module _ (L : Layout) where
   pub strip-sum-ext : (y z : ℕ → ℕ) (c d : ℕ) → ((i : ℕ) → i < L .r → y i ≡ z i) → strip-sum L y c d ≡ strip-sum L z c d
   unfolding strip-sum
   strip-sum-ext y z c d h = sumTo-ext (L .r) _ _ (λ i li. ap (λ (v : ℕ). only (eqb (L .diagonal i c) d) v) (h i li))
-
-  -- the row where the strip has the diagonal gives the sum, where no strip has a diagonal twice
-  pub strip-sum-at : Latin L → (y : ℕ → ℕ) (c i d : ℕ) → c < L .n → i < L .r → L .diagonal i c ≡ d → strip-sum L y c d ≡ y i
-  unfolding strip-sum
-  strip-sum-at latin y c i d lc li e =
-      sumTo-one (L .r) (λ k. only (eqb (L .diagonal k c) d) (y k)) i li
-      (λ k lk ne. only-no (L .diagonal k c) d (y k) (λ q. ne (latin .down k i c lk li lc (q ∙ sym e))))
-      ∙ only-yes (L .diagonal i c) d (y i) e
 
   -- rows that are zero wherever the strip has the diagonal sum to zero
   pub strip-sum-none : (y : ℕ → ℕ) (c d : ℕ) → ((k : ℕ) → k < L .r → L .diagonal k c ≡ d → y k ≡ 0) → strip-sum L y c d ≡ 0

@@ -21,16 +21,3 @@ agree-fewer C few many w f g a = record { survivors = λ p lp e. go p lp e (few 
 
 pub decided-fewer : (C : Code) (few many : ℕ → Bool) → Fewer few many → Decided C many → Decided C few
 decided-fewer C few many w d = record { same = λ f g bf bg a. d .same f g bf bg (agree-fewer C few many w f g a) }
-
-pub fails-more : (C : Code) (few many : ℕ → Bool) → Fewer few many → Fails C few → Fails C many
-fails-more C few many w x =
-    record {
-      one = x .one;
-      other = x .other;
-      one-bytes = x .one-bytes;
-      other-bytes = x .other-bytes;
-      one-sound = x .one-sound;
-      other-sound = x .other-sound;
-      agree = agree-fewer C few many w (x .one) (x .other) (x .agree);
-      differ = x .differ;
-    }

@@ -92,10 +92,6 @@ widest-of-least n p h l =
         le-div-iff-mul-le {k = p} {x = d} {y = n} (omega (arith, l .above)) .1
         (omega (arith, mul-le-mul-left d (l .least (suc (suc e)) (omega arith) (ap (λ (x : ℕ). x % suc (suc e)) (sym q) ∙ mul-mod-right (suc (suc e)) d))))
 
--- there is one
-pub widest-one : (n v w : ℕ) → WidestDivisor n v → WidestDivisor n w → v ≡ w
-widest-one n v w a b = omega (arith, a .most w (b .positive) (b .proper) (b .divides), b .most v (a .positive) (a .proper) (a .divides))
-
 -- q n is the largest divisor of n below n
 pub q-widest : (n : ℕ) → 2 ≤ n → WidestDivisor n (q n)
 unfolding q

@@ -71,14 +71,6 @@ module _ (L : Layout) (lost : ℕ → Bool) where
         rest = λ h l lh ll o d. known-ext (to h l lh ll) (x .rest h l lh ll o d);
       }
 
-  -- a line gives one element
-  pub lone-one : {B : ℕ → ℕ → Type 0} {K : Line} {i j h l : ℕ} → Lone L lost B K i j → Lone L lost B K h l → (h ≡ i) × (l ≡ j)
-  lone-one {B} {K} {i} {j} {h} {l} x y = go (same-or h l i j)
-    where
-      go : ((h ≡ i) × (l ≡ j)) ⊎ ((h ≢ i) ⊎ (l ≢ j)) → (h ≡ i) × (l ≡ j)
-      go (inl e) = e
-      go (inr d) = absurd (y .new (at-hand (y .is-lost) (x .rest h l (y .row-below) (y .strip-below) (y .on) d)))
-
   -- a data element of the line K that is lost and not built
   pub record Unknown (B : ℕ → ℕ → Type 0) (K : Line) (i j : ℕ) : Type 0 where
     pub row-below : i < L .r

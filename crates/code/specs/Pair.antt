@@ -2,15 +2,14 @@
 -- Assumes nothing.
 -- y i == what the lost strip holds in row i
 use Prim.Native.Nat.{ℕ, _<_}
-use mathlib.Core.Path.{_≡_, refl, sym, ap, ap₂, _∙_}
+use mathlib.Core.Path.{_≡_, sym, ap, ap₂, _∙_}
 use mathlib.Core.Logic.{_≢_}
 use mathlib.Core.Bool.{Bool, false}
 use native.Mathlib.Omega.{arith}
 use native.Mathlib.Decide.{ℕ-discrete}
-use lib.Dec.{eqb}
 use Rattle.code.specs.Xor.{_⊕_, ⊕-self, ⊕-eq, ⊕-of-eq}
 use Rattle.code.specs.Sum.{sumTo, only}
-use Rattle.code.specs.SumLaws.{sumTo-nil, sumTo-two, only-yes, only-no, only-byte, clash}
+use Rattle.code.specs.SumLaws.{sumTo-nil, sumTo-two, only-byte}
 use Rattle.code.specs.Code.{Agree, Same, Fails, Decided}
 use Rattle.code.specs.Linear.{zeros, decided-of-zeros}
 use Rattle.code.specs.Layout.{Layout, Fair, X, H, U, code, pair}
@@ -152,29 +151,3 @@ module _ (L : Layout) (F : Fair L) (a : ℕ) (la : a < L .n) where
   -- decided where only zeros cancel
   pub decided-one : ((y : ℕ → ℕ) → Cancelled L a y → (i : ℕ) → i < L .r → y i ≡ 0) → Decided (code L) (pair a (L .n))
   decided-one key = decided-of-zeros (code L) (pair a (L .n)) (λ f bf z. one-zero key f (balanced-sound L F f bf) z)
-
-  -- fails where something else does
-  pub fails-one : (y : ℕ → ℕ) → ((i : ℕ) → i < L .r → y i < 256) → Cancelled L a y → (i : ℕ) → i < L .r → y i ≢ 0 → Fails (code L) (pair a (L .n))
-  fails-one y small c i li ne =
-      stuck-fails L F (pair a (L .n)) K
-      (record {
-        bytes = λ h j lh lj. only-byte (eqb j a) (y h) (small h lh);
-        kept = λ h j lh lj e. out h j (pair-kept a (L .n) j e .0);
-        rows = λ h lh e. clash (sym e ∙ pair-right a (L .n));
-        diagonals = λ d ld e.
-            along-one L K d a la (λ h j lh lj na. out h j na) ∙ strip-sum-ext L (λ h. K h a) y a d (λ h lh. on-a h) ∙ c .each d ld (pair-kept a (L .n) (L .home d) e .0);
-        row = i;
-        strip = a;
-        row-below = li;
-        strip-below = la;
-        some = λ e. ne (sym (on-a i) ∙ e);
-      })
-    where
-      K : ℕ → ℕ → ℕ
-      K h j = only (eqb j a) (y h)
-
-      out : (h j : ℕ) → j ≢ a → K h j ≡ 0
-      out h j na = only-no j a (y h) na
-
-      on-a : (h : ℕ) → K h a ≡ y h
-      on-a h = only-yes a a (y h) refl

@@ -159,10 +159,6 @@ pub only-zero : (t : Bool) (v : ℕ) → v ≡ 0 → only t v ≡ 0
 only-zero true v e = e
 only-zero false v e = refl
 
-pub only-add : (t : Bool) (v w : ℕ) → only t (v ⊕ w) ≡ only t v ⊕ only t w
-only-add true v w = refl
-only-add false v w = sym (⊕-zero 0)
-
 pub only-byte : (t : Bool) (v : ℕ) → v < 256 → only t v < 256
 only-byte true v h = h
 only-byte false v h = omega arith

@@ -13,9 +13,6 @@ use Rattle.element.specs.Filled.{Begins, Filled}
 
 -- ---- how a list begins
 
-pub begins-take : (m : ℕ) (f : ℕ → ℕ) (a : List ℕ) → Begins m f a → Begins m f (take m a)
-begins-take m f a p = record { each = λ k lt. getD-take m a k 0 lt ∙ p .each k lt }
-
 -- ---- one more
 
 pub filled-none : (s : List ℕ) (d : ℕ) (f : ℕ → ℕ) → Filled s d 0 f s
@@ -53,9 +50,6 @@ filled-all s d m l f t h g p = filled-same s d m l f f t (omega arith) (λ k lt.
 
 pub filled-begins : (s : List ℕ) (m : ℕ) (f : ℕ → ℕ) (t : List ℕ) → Filled s 0 m f t → Begins m f t
 filled-begins s m f t p = record { each = λ k lt. ap (λ (n : ℕ). getD t n 0) (sym (zero-add k)) ∙ p .inside k lt }
-
-pub filled-take : (s : List ℕ) (m : ℕ) (f : ℕ → ℕ) (t : List ℕ) → m ≤ length s → Filled s 0 m f t → length (take m t) ≡ m
-filled-take s m f t h p = length-take-le m t (omega (arith, p .long))
 
 -- ---- a run of m, and after it one of l
 

@@ -7,29 +7,16 @@ use mathlib.Core.List.{List}
 use Prim.Native.Nat.{ℕ, _+_, _*_, _-_, _≤_, _<_}
 use native.Mathlib.Decide.{ℕ-discrete}
 use native.Mathlib.Omega.{arith}
-use lib.ListN.{length, getD, take}
-use lib.Seq.{length-take-le}
+use lib.ListN.{length, getD}
 use Rattle.code.specs.Xor.{_⊕_}
 use Rattle.code.specs.Sum.{sum}
 use Rattle.code.specs.SumLaws.{sum-same}
 use Rattle.code.specs.Place.{at, inside, apart}
-use Rattle.element.specs.Filled.{Begins, Filled}
-use Rattle.element.specs.FilledLaws.{begins-take}
+use Rattle.element.specs.Filled.{Filled}
 use Rattle.element.specs.Gather.{from, total, Fits, Apart, Gathered, Tells}
 use Rattle.element.specs.Placed.{Offsets, Placed, TellsAt, AddedAt}
 
 -- ---- offsets
-
--- the places are g 0, .., g (m - 1), and the table b begins with where they start
-pub offsets-take : (e m : ℕ) (g : ℕ → ℕ) (ps b : List ℕ) → length ps ≡ m → ((i : ℕ) → i < m → getD ps i 0 ≡ g i) → m ≤ length b
-    → Begins m (λ i. g i * e) b → Offsets e ps (take m b)
-offsets-take e m g ps b l h w p =
-    record {
-      long = length-take-le m b w ∙ sym l;
-      each = λ i lt.
-          let x : i < m = omega arith in
-          begins-take m (λ j. g j * e) b p .each i x ∙ ap (λ (y : ℕ). y * e) (sym (h i x));
-    }
 
 -- the element at place q lies inside the l bytes of a stripe
 pub place-fits : (l e N q d : ℕ) → l ≡ e * N → q < N → d ≡ q * e → d + e ≤ l

@@ -18,7 +18,7 @@ use Rattle.shape.specs.Limits.{Limits}
 use Rattle.shape.specs.JudgedCall.{named-small}
 use Rattle.finding.specs.declared.Finding.{Finding}
 use Rattle.finding.specs.declared.Finding.the-variants as finding
-use Rattle.finding.specs.Found.{wrong-row, wrong-diagonal, found}
+use Rattle.finding.specs.Found.{wrong-row, wrong-diagonal, found-of, found}
 use Rattle.stripe.specs.declared.scrubbing.Scrubbed.{Scrubbed}
 use Rattle.stripe.specs.declared.scrubbing.Scrubbed.the-variants.{Counted, Refused}
 use Rattle.stripe.specs.Scrub.{scrubbed-number, Scrubs}
@@ -54,7 +54,7 @@ meets-small n r s i d l h =
     omega arith
 
 found-small : (n r s e : ℕ) (b : List ℕ) → Limits n r s e → SmallFinding (found (shift n r s) e b)
-unfolding found
+unfolding found-of
 found-small n r s e b l =
     any-small i d (meets n r s i d) (eqb rows 0) (eqb rows 1) (eqb diagonals 0) (eqb diagonals 1)
     (omega (arith, first-most r (wrong-row (shift n r s) e b), l .r-high))

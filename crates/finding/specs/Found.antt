@@ -20,23 +20,17 @@ wrong-row L e s i = some e (λ k. not (eqb (at s e k (H L i)) (sumTo (L .n) (λ 
 abbrev pub wrong-diagonal : Layout → ℕ → List ℕ → ℕ → Bool
 wrong-diagonal L e s d = some e (λ k. not (eqb (at s e k (U L d)) (along L (λ i j. at s e k (X L i j)) d)))
 
--- (0,0) sound; (1,0) that H; (0,1) that U; (1,1) the data element where the row and the diagonal meet; anything else, several
-unfoldable pub found : Layout → ℕ → List ℕ → Finding
-found L e s =
+-- what a wrong rows, the first of them i, and b wrong diagonals, the first of them d, find: (0,0) sound; (1,0) that H; (0,1) that U; (1,1) the data
+-- element where the row and the diagonal meet; anything else, several
+unfoldable pub found-of : Layout → ℕ → ℕ → ℕ → ℕ → Finding
+found-of L a i b d =
     pick (eqb a 0) (pick (eqb b 0) finding.Sound (pick (eqb b 1) (finding.U d) finding.Several))
     (pick (eqb a 1) (pick (eqb b 0) (finding.H i) (pick (eqb b 1) (finding.Element i (L .meets i d)) finding.Several)) finding.Several)
-  where
-    a : ℕ
-    a = count (L .r) (wrong-row L e s)
 
-    b : ℕ
-    b = count (L .n) (wrong-diagonal L e s)
-
-    i : ℕ
-    i = first (L .r) (wrong-row L e s)
-
-    d : ℕ
-    d = first (L .n) (wrong-diagonal L e s)
+-- what the wrong lines of the stripe s find
+abbrev pub found : Layout → ℕ → List ℕ → Finding
+found L e s =
+    found-of L (count (L .r) (wrong-row L e s)) (first (L .r) (wrong-row L e s)) (count (L .n) (wrong-diagonal L e s)) (first (L .n) (wrong-diagonal L e s))
 
 -- x has how many rows and how many diagonals of the stripe s are wrong, and what that finds
 pub record Finds (L : Layout) (e : ℕ) (s : List ℕ) (x : Counts) : Type 0 where

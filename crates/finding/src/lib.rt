@@ -9,8 +9,8 @@ ghost use Rattle.code.specs.Shift.{shift};
 ghost use Rattle.shape.specs.Limits.{Limits};
 ghost use Rattle.shape.specs.Call.{bytes-of};
 ghost use Rattle.lines.specs.Unbalanced.{unbalanced};
-ghost use Rattle.finding.specs.Found.{Finds};
-ghost use Rattle.finding.specs.Tally.{Tallied, FoundBy};
+ghost use Rattle.finding.specs.Found.{found-of, Finds};
+ghost use Rattle.finding.specs.Tally.{Tallied};
 
 pub enum Finding {
     Sound,
@@ -62,7 +62,7 @@ fn found(shape: Shape, rows: Tally, diagonals: Tally) -> Finding
     requires { ⌜ Limits (shape .n) (shape .r) (shape .s) (shape .e) ⌝ }
     requires row { ⌜ (0 < rows .count → rows .first < shape .r) ⌝ }
     requires diagonal { ⌜ (0 < diagonals .count → diagonals .first < shape .n) ⌝ }
-    ensures { λ x. ⌜ FoundBy (shift (shape .n) (shape .r) (shape .s)) (rows .count) (rows .first) (diagonals .count) (diagonals .first) x ⌝ }
+    ensures { λ x. ⌜ x ≡ found-of (shift (shape .n) (shape .r) (shape .s)) (rows .count) (rows .first) (diagonals .count) (diagonals .first) ⌝ }
 {
     let a = rows.count;
     let i = rows.first;

@@ -11,7 +11,7 @@ ghost use Rattle.patch.specs.Written.{written-over};
 ghost use Rattle.patch.specs.Patch.{Touches, Spots, Patched};
 
 // The places that a write touches: the data element, H of its row and U of its diagonal.
-pub struct Touched {
+struct Touched {
     pub x: usize,
     pub h: usize,
     pub u: usize,
@@ -36,7 +36,7 @@ fn places(shape: Shape, row: usize, strip: usize) -> Touched
 // added at t.h and t.u.
 fn patch(stripe: &mut [u8], e: usize, t: Touched, o: usize, run: &[u8], c: usize, m: usize)
     requires { ⌜ Spots (now stripe) e (t .x) (t .h) (t .u) ⌝ }
-    requires block { ⌜ (o + m ≤ e) × (c + m ≤ length (now run)) × (m ≤ 128) ⌝ }
+    requires block { ⌜ (o + m ≤ e) × (c + m ≤ length (now run)) × (m ≤ 128) × (1 ≤ e) ⌝ }
     ensures { λ _. ⌜ Patched e (t .x) (t .h) (t .u) o m (λ k. getD (now (run .entry)) (c + (k - o)) 0) (now (stripe .entry)) (now (stripe .exit)) ⌝ }
 {
     let x = t.x * e + o;

@@ -3,7 +3,6 @@
 use Prim.Native.Nat.{ℕ, _+_, _-_}
 use mathlib.Core.Path.{_≡_, refl}
 use mathlib.Core.Bool.{Bool, true, false}
-use native.Mathlib.Omega.{arith}
 use lib.Dec.{ltb, leb}
 use borrow.Author.Tests.{ltb-true, ltb-false, leb-true, lt-ltb, le-ltb, le-leb}
 use Rattle.code.specs.Sum.{pick}
@@ -23,10 +22,6 @@ module _ (n r s : ℕ) where
   pub good-tested : Good n r s → good-test n r s ≡ true
   good-tested (wide a b) = simp (lt-ltb (q n) s a, le-leb r (n - s) b)
   good-tested (narrow a b) = simp (le-ltb (q n) s a, le-leb (r + q n + s) n b)
-
-  -- a shape above the bound is weak
-  pub weak-test : good-test n r s ≡ false → Good n r s → ⊥
-  weak-test e g = let z : _≡_ {A = ℕ} 0 1 = cc (good-tested g) in omega arith
 
   pub weak-tested : (Good n r s → ⊥) → good-test n r s ≡ false
   weak-tested f = go (good-test n r s) refl

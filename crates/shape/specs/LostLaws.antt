@@ -1,13 +1,12 @@
 -- Laws of a set of lost strips: its count, its first and its last; at most two of them are a pair. Assumes nothing.
-use mathlib.Core.Path.{_≡_, refl, ap, ap₂, _∙_}
+use mathlib.Core.Path.{_≡_, refl, ap, _∙_}
 use mathlib.Core.Bool.{Bool, true, false}
-use Prim.Native.Nat.{ℕ, suc, _+_, _≤_, _<_}
+use Prim.Native.Nat.{ℕ, _≤_, _<_}
 use native.Mathlib.Decide.{ℕ-discrete, decLt}
 use native.Mathlib.Omega.{arith}
 use borrow.Author.Tests.{eq-eqb, ne-eqb}
-use Rattle.code.specs.Sum.{only}
 use Rattle.code.specs.Below.{count}
-use Rattle.code.specs.CountLaws.{count-hit, count-past, zero-count}
+use Rattle.code.specs.CountLaws.{count-hit}
 use Rattle.code.specs.Layout.{pair}
 use Rattle.shape.specs.Mask.{FirstLost, LastLost}
 
@@ -20,16 +19,6 @@ module _ (lost : ℕ → Bool) where
         go : Dec (b < a) → a ≤ b
         go (yes l) = let z : _≡_ {A = ℕ} 0 1 = cc (f .lower b l, g .is-lost) in omega arith
         go (no l) = omega arith
-
-    -- where they are the same one strip is lost, else two or more
-    pub one-lost : a ≡ b → count 64 lost ≡ 1
-    unfolding count
-    one-lost e =
-        count-past lost (suc a) 64 (omega (arith, f .within)) (λ j l h. g .upper j (omega arith))
-        ∙ ap₂ (λ (x y : ℕ). x + y) (zero-count a lost (f .lower)) (ap (λ (t : Bool). only t 1) (f .is-lost))
-
-    pub two-lost : a < b → 2 ≤ count 64 lost
-    two-lost l = omega (arith, count-hit lost a b l (f .is-lost), count-hit lost b 64 (g .within) (g .is-lost))
 
     -- at most two lost strips are the first and the last
     pub pair-lost : count 64 lost ≤ 2 → (j : ℕ) → lost j ≡ pair a b j

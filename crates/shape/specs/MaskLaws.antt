@@ -2,15 +2,13 @@
 use mathlib.Core.Path.{_≡_, refl, sym, ap, ap₂, _∙_}
 use mathlib.Core.Bool.{false}
 use Prim.Native.Nat.{ℕ, zero, suc, _+_, _/_, _%_, _^_, _≤_, _<_}
-use native.Mathlib.Nat.{mod-lt, mod-one, mod-eq-of-lt, zero-lt-suc, add-comm, div-eq-of-lt, lt-of-lt-of-le, zero-div}
+use native.Mathlib.Nat.{mod-lt, mod-one, mod-eq-of-lt, zero-lt-suc, add-comm, div-eq-of-lt, lt-of-lt-of-le}
 use native.Mathlib.Omega.{arith}
-use native.Mathlib.Decide.{decLt}
 use lib.Dec.{eqb}
 use lib.Pow.{pow-pos, mod-pow-add, pow-mono}
 use lib.Count.{ones, ones-cat}
 use Rattle.code.specs.Sum.{only}
 use Rattle.code.specs.Below.{count}
-use Rattle.code.specs.CountLaws.{count-zero, zero-count}
 use Rattle.shape.specs.Mask.{lost-in}
 
 -- a number below 2 ^ n has no one at bit n or above
@@ -36,18 +34,3 @@ ones-below (suc k) x =
 -- the ones of a number of k digits are the strips that it loses
 pub ones-count : (k x : ℕ) → x < 2 ^ k → ones x ≡ count k (lost-in x)
 ones-count k x h = ap ones (sym (mod-eq-of-lt h)) ∙ ones-below k x
-
--- a mask that loses a strip is not 0
-pub count-mask : (k x : ℕ) → 0 < count k (lost-in x) → 0 < x
-count-mask k zero h =
-    let z : count k (lost-in 0) ≡ 0 = zero-count k (lost-in 0) (λ j l. ap (λ (y : ℕ). eqb (y % 2) 1) (zero-div (2 ^ j))) in
-    absurd (omega arith)
-count-mask k (suc x) h = zero-lt-suc x
-
--- and one that loses none of 64 has no one at all
-pub count-empty : (x : ℕ) → x < 2 ^ 64 → count 64 (lost-in x) ≡ 0 → (j : ℕ) → lost-in x j ≡ false
-count-empty x h z j = go (decLt j 64)
-  where
-    go : Dec (j < 64) → lost-in x j ≡ false
-    go (yes l) = count-zero 64 (lost-in x) z j l
-    go (no l) = none-from x 64 h j (omega arith)

@@ -9,7 +9,7 @@ use Rattle.code.specs.Sound.{along}
 use Rattle.code.specs.Below.{some, count, first}
 use Rattle.code.specs.Shift.{diagonal, meets, shift}
 use Rattle.finding.specs.declared.Finding.the-variants as finding
-use Rattle.finding.specs.Found.{found}
+use Rattle.finding.specs.Found.{found-of}
 use Rattle.stripe.specs.declared.scrubbing.Scrubbed.{Scrubbed}
 use Rattle.stripe.specs.declared.scrubbing.Scrubbed.the-variants.{Counted}
 use Rattle.stripe.specs.Scrub.{counted-of}
@@ -32,5 +32,5 @@ pub record CaseB : Type 0 where
   pub u : answer-with 14 0x45 ≡ Counted 0 1 (finding.U 4)
 
 pub scrub-case-b : CaseB
-unfolding case-b answer-with some count found sumTo along first diagonal meets _⊕_
+unfolding case-b answer-with some count found-of sumTo along first diagonal meets _⊕_
 scrub-case-b = record { sound = refl; element = refl; h = refl; u = refl }

@@ -19,7 +19,7 @@ use Rattle.shape.specs.Refusal.{refusal-some}
 use Rattle.shape.specs.CallLaws.{named-same}
 use Rattle.finding.specs.declared.Finding.the-variants as finding
 use Rattle.finding.specs.Found.{wrong-row, wrong-diagonal, found}
-use Rattle.finding.specs.FoundLaws.{found-sound, found-U, found-H, found-element, sound-counts}
+use Rattle.finding.specs.FoundLaws.{found-sound, found-U, found-H, found-element, found-tallied, sound-counts}
 use Rattle.finding.specs.LinesOf.{X-row, X-diagonal, H-row, H-diagonal, U-row, U-diagonal}
 use Rattle.finding.specs.ChangedAt.{ChangedAt, one-row, no-row, one-diagonal, no-diagonal}
 use Rattle.stripe.specs.declared.scrubbing.Scrubbed.{Scrubbed}
@@ -55,10 +55,7 @@ module _ (L : Layout) (e : ℕ) (s : List ℕ) where
 
   -- and then, and only then, the finding is Sound
   pub scrub-finds-sound : (found L e s ≡ finding.Sound) ↔ ((k : ℕ) → k < e → Sound L (at s e k))
-  scrub-finds-sound = (λ q. scrub-sound .0 (sound-counts L e s q), λ h. sym (zero (scrub-sound .1 h)))
-    where
-      zero : (count (L .r) (wrong-row L e s) ≡ 0) × (count (L .n) (wrong-diagonal L e s) ≡ 0) → finding.Sound ≡ found L e s
-      zero z = found-sound L e s _ _ _ _ (record { many = refl; lowest = refl }) (record { many = refl; lowest = refl }) (z .0) (z .1)
+  scrub-finds-sound = (λ q. scrub-sound .0 (sound-counts L _ _ _ _ q), λ h. let z = scrub-sound .1 h in sym (found-sound L _ _ _ _ (z .0) (z .1)))
 
 -- ---- one changed element
 
@@ -68,7 +65,7 @@ module _ (L : Layout) (F : Fair L) (e : ℕ) (s t : List ℕ) (sound : (k : ℕ)
   scrub-element i j li lj c =
       let p = one-row L F e (X L i j) s t sound c i (X-row L i j li (omega arith)) in
       let q = one-diagonal L F e (X L i j) s t sound c (L .diagonal i j) (X-diagonal L F i j li lj) in
-      let f = found-element L e t 1 i 1 (L .diagonal i j) p q refl refl in
+      let f = found-element L 1 i 1 (L .diagonal i j) refl refl ∙ found-tallied L e t 1 i 1 (L .diagonal i j) p q in
       cc (p .many, q .many, f, F .meets-diagonal i j li lj)
 
   -- an H: its row is wrong
@@ -76,7 +73,7 @@ module _ (L : Layout) (F : Fair L) (e : ℕ) (s t : List ℕ) (sound : (k : ℕ)
   scrub-H i li c =
       let p = one-row L F e (H L i) s t sound c i (H-row L i li) in
       let q = no-diagonal L F e (H L i) s t sound c (H-diagonal L F i li) in
-      let f = found-H L e t 1 i 0 _ p q refl refl in
+      let f = found-H L 1 i 0 _ refl refl ∙ found-tallied L e t 1 i 0 _ p q in
       cc (p .many, q .many, f)
 
   -- a U: its diagonal is wrong
@@ -84,7 +81,7 @@ module _ (L : Layout) (F : Fair L) (e : ℕ) (s t : List ℕ) (sound : (k : ℕ)
   scrub-U d ld c =
       let p = no-row L F e (U L d) s t sound c (U-row L d) in
       let q = one-diagonal L F e (U L d) s t sound c d (U-diagonal L F d ld) in
-      let f = found-U L e t 0 _ 1 d p q refl refl in
+      let f = found-U L 0 _ 1 d refl refl ∙ found-tallied L e t 0 _ 1 d p q in
       cc (p .many, q .many, f)
 
 -- ---- the contract

@@ -1,12 +1,11 @@
 -- The number of a write and of a read: line 9 in words, when the number is 0, and the answer in each case of a good shape. Assumes nothing.
 -- size == the bytes of the lent buffer    len == the bytes of the run, 0 for a read
 use mathlib.Core.Path.{_≡_, refl, sym, ap, _∙_}
-use mathlib.Core.Logic.{_⊎_, inl, inr}
 use mathlib.Core.Bool.{Bool, true, false}
 use Prim.Native.Nat.{ℕ, _+_, _≤_, _<_}
 use native.Mathlib.Omega.{arith}
 use lib.Dec.{ltb, leb}
-use borrow.Author.Tests.{ltb-true, ltb-false, leb-true, leb-false, le-leb, lt-leb, le-ltb}
+use borrow.Author.Tests.{ltb-false, leb-false, le-leb, lt-leb, le-ltb}
 use Rattle.code.specs.Sum.{pick}
 use Rattle.code.specs.SumLaws.{clash}
 use Rattle.code.specs.Bound.{Good}
@@ -42,15 +41,6 @@ module _ (n r e i j o len : ℕ) where
       go true b p q h = clash (sym h)
       go false true p q h = clash (sym h)
       go false false p q h = (leb-false r i p, leb-false n j q, ltb-false e (o + len) h)
-
-  -- it holds: one of them is not
-  pub outside-place : place-outside n r e i j o len ≡ true → (r ≤ i) ⊎ ((n ≤ j) ⊎ (e < o + len))
-  outside-place = go (leb r i) (leb n j) refl refl
-    where
-      go : (a b : Bool) → leb r i ≡ a → leb n j ≡ b → pick a true (pick b true (ltb e (o + len))) ≡ true → (r ≤ i) ⊎ ((n ≤ j) ⊎ (e < o + len))
-      go true b p q h = inl (leb-true r i p)
-      go false true p q h = inr (inl (leb-true n j q))
-      go false false p q h = inr (inr (ltb-true e (o + len) h))
 
 -- ---- when a write is done
 

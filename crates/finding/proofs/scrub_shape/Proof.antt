@@ -5,6 +5,7 @@ use Rattle.code.specs.Shift.{shift}
 use Rattle.code.specs.ShiftLaws.{shift-fair}
 use Rattle.finding.specs.TallyLaws.{tallied-below}
 use Rattle.finding.specs.WrongLaws.{tallied-rows, tallied-diagonals}
+use Rattle.finding.specs.FoundLaws.{finds-tallied}
 use Rattle.finding.proofs.scrub_shape.Statement.{statement}
 use Rattle.finding.proofs.scrub_shape.Tie as tie
 
@@ -27,8 +28,7 @@ returns c =
     let p = tallied-rows L (a .shape .e) (a .stripe .now) _ _ (c .before .before .wrong-lines .ensures) in
     let fair = shift-fair (a .shape .n) (a .shape .r) (a .shape .s) (omega arith) in
     let q = tallied-diagonals L (a .shape .e) (a .stripe .now) fair _ _ (c .before .wrong-lines2 .ensures) in
-    let f = c .found .ensures .is (a .shape .e) (a .stripe .now) p q in
-    record { rows-are = p .many; diagonals-are = q .many; finding-is = f }
+    finds-tallied L (a .shape .e) (a .stripe .now) _ _ _ _ p q _ (c .found .ensures)
 
 pub scrub-shape-spec : {M : Type 1} → statement M
 scrub-shape-spec =

@@ -57,7 +57,7 @@ add-patch : tie.Need-add-patch Inv-loop μ-loop
 add-patch c = search needs
 
 patch-requires : tie.Need-patch-requires Inv-loop μ-loop
-patch-requires c κs = (spots (c .before .before), (omega arith, omega arith, omega arith))
+patch-requires c κs = (spots (c .before .before), (omega arith, omega arith, omega arith, omega arith))
 
 add-c : tie.Need-add-c Inv-loop μ-loop
 add-c c = search needs
@@ -77,7 +77,7 @@ add-patch-2 : tie.Need-add-patch-2 Inv-loop μ-loop
 add-patch-2 c = search needs
 
 patch-requires-2 : tie.Need-patch-requires-2 Inv-loop μ-loop
-patch-requires-2 c κs = (spots (c .before .before .before), (omega arith, omega arith, omega arith))
+patch-requires-2 c κs = (spots (c .before .before .before), (omega arith, omega arith, omega arith, omega arith))
 
 same-length : tie.Need-same-length Inv-loop μ-loop
 same-length c = c .before .before .patch2 .ensures .long ∙ c .before .before .before .before .before .before .loop .inv .1 .long
