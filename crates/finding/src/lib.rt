@@ -46,9 +46,10 @@ fn wrong_lines(shape: Shape, stripe: &[u8], from: usize, m: usize) -> Tally
     let mut count: usize = 0;
     let mut first = m;
     let mut left = m;
+    let mut offs = [0usize; 33];
     while 0 < left {
         let v = left - 1;
-        if wrong_line(shape, stripe, from + v) {
+        if wrong_line(shape, stripe, from + v, &mut offs) {
             count += 1;
             first = v;
         }

@@ -1,7 +1,7 @@
 -- A line as the code lists it: the bytes where its elements start. Assumes nothing.
 use mathlib.Core.Path.{_≡_}
 use mathlib.Core.List.{List}
-use Prim.Native.Nat.{ℕ, _+_, _*_, _%_, _<_}
+use Prim.Native.Nat.{ℕ, _*_, _<_}
 use lib.ListN.{length, getD}
 use Rattle.code.specs.Layout.{Layout, line}
 
@@ -10,8 +10,3 @@ pub record Listed (L : Layout) (e t : ℕ) (os : List ℕ) (m : ℕ) : Type 0 wh
   pub room : length os ≡ 33
   pub count : m ≡ length (line L t)
   pub each : (v : ℕ) → v < m → getD os v 0 ≡ getD (line L t) v 0 * e
-
--- strip x is one step back from strip j, round the n of them
-pub record Back (n j x : ℕ) : Type 0 where
-  pub below : x < n
-  pub round : (x + 1) % n ≡ j

@@ -7,7 +7,7 @@ ghost use Rattle.code.specs.Layout.{X, places};
 ghost use Rattle.code.specs.Shift.{shift};
 ghost use Rattle.shape.specs.Limits.{Limits};
 ghost use Rattle.shape.specs.Answers.{Among};
-ghost use Rattle.lines.specs.Listed.{Back, Listed};
+ghost use Rattle.lines.specs.Listed.{Listed};
 
 // The place of row i of strip j: row r is the strip's U, strip n holds the H, and the corner where they would meet is not stored.
 pub fn place(shape: Shape, i: usize, j: usize) -> usize
@@ -25,14 +25,6 @@ fn start(shape: Shape, i: usize, j: usize) -> usize
     ensures { λ o. ⌜ o ≡ X (shift (shape .n) (shape .r) (shape .s)) i j * shape .e ⌝ }
 {
     place(shape, i, j) * shape.e
-}
-
-// The strip before j, round the n of them.
-fn strip_before(j: usize, n: usize) -> usize
-    requires { ⌜ j < n ⌝ }
-    ensures { λ x. ⌜ Back n j x ⌝ }
-{
-    if 0 < j { j - 1 } else { n - 1 }
 }
 
 // Row i, and how many elements it has: the next one starts a whole strip further on, and H is that of strip n.
@@ -55,19 +47,23 @@ fn fill_row(shape: Shape, i: usize, offs: &mut [usize; 33]) -> usize
     m
 }
 
-// Diagonal d, and how many elements it has: the strip falls by one from row to row, so one division finds them all.
+// Diagonal d, and how many elements it has: the strip falls by one from row to row, so the next one starts r elements sooner, but after strip 0
+// comes strip n - 1. One division finds them all, and no product is formed for each.
 fn fill_diagonal(shape: Shape, d: usize, offs: &mut [usize; 33]) -> usize
     requires { ⌜ Limits (shape .n) (shape .r) (shape .s) (shape .e) ⌝ }
     requires diagonal { ⌜ (d < shape .n) × (length (now offs) ≡ 33) ⌝ }
     ensures { λ m. ⌜ Listed (shift (shape .n) (shape .r) (shape .s)) (shape .e) (shape .r + d) (now (offs .exit)) m ⌝ }
 {
-    let n = shape.n;
     let r = shape.r;
-    let mut j = shape.meets(0, d);
+    let e = shape.e;
+    let back = r * e;
+    let wrap = start(shape, 1, shape.n - 1);
+    let j = shape.meets(0, d);
+    let mut o = start(shape, 0, j);
     let mut i: usize = 0;
     while i < r {
-        offs[i] = start(shape, i, j);
-        j = strip_before(j, n);
+        offs[i] = o;
+        o = if back <= o { o - back } else { o + wrap };
         i += 1;
     }
     offs[r] = start(shape, r, d);

@@ -14,9 +14,10 @@ pub fn unused_zero(shape: Shape, stripe: &[u8], used: &[u8; 64]) -> bool
     ensures { λ x. ⌜ Tests (shift (shape .n) (shape .r) (shape .s)) (shape .e) (now (used .entry)) (now (stripe .entry)) x ⌝ }
 {
     let m = shape.r + shape.n;
+    let mut offs = [0usize; 33];
     for t in 0..m {
         if used[t] == 0 {
-            if lines::wrong_line(shape, stripe, t) {
+            if lines::wrong_line(shape, stripe, t, &mut offs) {
                 return false;
             }
         }

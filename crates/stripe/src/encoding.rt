@@ -24,9 +24,10 @@ pub(crate) fn encode_shape(shape: Shape, stripe: &mut [u8])
     ensures { λ _. ⌜ EncodedFrom (shift (shape .n) (shape .r) (shape .s)) (shape .e) (now (stripe .entry)) (now (stripe .exit)) ⌝ }
 {
     let last = shape.r + shape.n - 1;
+    let mut offs = [0usize; 33];
     let mut t: usize = 0;
     while t <= last {
-        lines::build(shape, t, parity_in(shape, t), stripe);
+        lines::build(shape, t, parity_in(shape, t), &mut offs, stripe);
         t += 1;
     }
 }

@@ -37,16 +37,16 @@ on-diagonal c =
 
 build-requires : tie.Need-build-requires
 build-requires c κs =
-    let start = c .before .before .before .before .before in
-    (start .pre .0, ((on-diagonal c .below, on-diagonal c .within), start .pre .1 .1))
+    let start = c .before .before .before .before .before .before in
+    (start .pre .0, ((on-diagonal (c .before) .below, on-diagonal (c .before) .within), (start .pre .1 .1 .0, start .pre .1 .1 .1)))
 
 same-length : tie.Need-same-length
 same-length c = search needs
 
 returns : tie.Need-returns
 returns c =
-    let start = c .before .before .before .before .before .before .before .before in
-    builds-stepped _ (fair _ _ _ _ (start .pre .0)) _ _ _ _ (on-diagonal (c .before .before .before)) _ _ (c .before .before .build .ensures)
+    let start = c .before .before .before .before .before .before .before .before .before in
+    (builds-stepped _ (fair _ _ _ _ (start .pre .0)) _ _ _ _ (on-diagonal (c .before .before .before .before)) _ _ (c .before .before .build .ensures .0), c .before .before .build .ensures .1)
 
 add-t-2 : tie.Need-add-t-2
 add-t-2 c =
@@ -55,7 +55,7 @@ add-t-2 c =
     omega (arith, four-where _ (fair _ _ _ _ (start .pre .0)) (step (a .kind) (a .row) (a .strip)) (start .pre .1 .0) (omega arith) .0)
 
 -- kind 4, on the diagonal whose U the strip stores
-of-strip : (c : tie.After-build-arg2) → let a = c .before .before .before .before .before .args in
+of-strip : (c : tie.After-build-arg3) → let a = c .before .before .before .before .before .args in
     Where (shift (a .shape .n) (a .shape .r) (a .shape .s)) (step (a .kind) (a .row) (a .strip)) (a .shape .r + a .strip) (a .row)
 of-strip c =
     let start = c .before .before .before .before .before in
@@ -64,19 +64,19 @@ of-strip c =
 
 build-requires-2 : tie.Need-build-requires-2
 build-requires-2 c κs =
-    let start = c .before .before .before .before .before in
-    (start .pre .0, ((of-strip c .below, of-strip c .within), start .pre .1 .1))
+    let start = c .before .before .before .before .before .before in
+    (start .pre .0, ((of-strip (c .before) .below, of-strip (c .before) .within), (start .pre .1 .1 .0, start .pre .1 .1 .1)))
 
 same-length-2 : tie.Need-same-length-2
 same-length-2 c = search needs
 
 returns-2 : tie.Need-returns-2
 returns-2 c =
-    let start = c .before .before .before .before .before .before .before .before in
-    builds-stepped _ (fair _ _ _ _ (start .pre .0)) _ _ _ _ (of-strip (c .before .before .before)) _ _ (c .before .before .build2 .ensures)
+    let start = c .before .before .before .before .before .before .before .before .before in
+    (builds-stepped _ (fair _ _ _ _ (start .pre .0)) _ _ _ _ (of-strip (c .before .before .before .before)) _ _ (c .before .before .build2 .ensures .0), c .before .before .build2 .ensures .1)
 
 -- the rest, on their row
-on-row : (c : tie.After-build-arg3) → let a = c .before .before .before .before .args in
+on-row : (c : tie.After-build-arg5) → let a = c .before .before .before .before .args in
     Where (shift (a .shape .n) (a .shape .r) (a .shape .s)) (step (a .kind) (a .row) (a .strip)) (a .row) (a .strip)
 on-row c =
     let start = c .before .before .before .before in
@@ -85,16 +85,16 @@ on-row c =
 
 build-requires-3 : tie.Need-build-requires-3
 build-requires-3 c κs =
-    let start = c .before .before .before .before in
-    (start .pre .0, ((on-row c .below, on-row c .within), start .pre .1 .1))
+    let start = c .before .before .before .before .before in
+    (start .pre .0, ((on-row (c .before) .below, on-row (c .before) .within), (start .pre .1 .1 .0, start .pre .1 .1 .1)))
 
 same-length-3 : tie.Need-same-length-3
 same-length-3 c = search needs
 
 returns-3 : tie.Need-returns-3
 returns-3 c =
-    let start = c .before .before .before .before .before .before .before in
-    builds-stepped _ (fair _ _ _ _ (start .pre .0)) _ _ _ _ (on-row (c .before .before .before)) _ _ (c .before .before .build3 .ensures)
+    let start = c .before .before .before .before .before .before .before .before in
+    (builds-stepped _ (fair _ _ _ _ (start .pre .0)) _ _ _ _ (on-row (c .before .before .before .before)) _ _ (c .before .before .build3 .ensures .0), c .before .before .build3 .ensures .1)
 
 pub run-step-spec : {M : Type 1} → statement M
 run-step-spec =

@@ -4,7 +4,7 @@ use native.Mathlib.Omega.{arith}
 use Prim.Native.Nat.{ℕ, _≤_, _+_, _-_, _*_}
 use mathlib.Core.Path.{_≡_, sym, ap₂, _∙_, subst}
 use mathlib.Core.List.{List}
-use lib.ListN.{getD}
+use lib.ListN.{length, getD}
 use Rattle.code.specs.Shift.{shift}
 use Rattle.walker.specs.Written.{step, written}
 use Rattle.rebuild.specs.Stepping.{Shaped}
@@ -13,13 +13,14 @@ use Rattle.rebuild.proofs.stepping.run_steps.Statement.{statement}
 use Rattle.rebuild.proofs.stepping.run_steps.Tie as tie
 
 abbrev Inv-loop : tie.InvT-loop
-Inv-loop shape steps count stripe₀ used₀ k₀ stripe used k = (k ≤ count) × Running (shift (shape .n) (shape .r) (shape .s)) (shape .e) (written steps) k stripe₀ stripe used
+Inv-loop shape steps count stripe₀ used₀ offs₀ k₀ stripe used offs k =
+    (k ≤ count) × Running (shift (shape .n) (shape .r) (shape .s)) (shape .e) (written steps) k stripe₀ stripe used × (length offs ≡ 33)
 
 abbrev μ-loop : tie.MeasureT-loop
-μ-loop shape steps count stripe₀ used₀ k₀ stripe used k = count - k
+μ-loop shape steps count stripe₀ used₀ offs₀ k₀ stripe used offs k = count - k
 
 loop-holds : tie.Need-loop-holds Inv-loop μ-loop
-loop-holds c = (omega arith, running-none _ _ _ _ _ (c .before .pre .1 .1 .1 .0) (c .before .pre .1 .1 .1 .1))
+loop-holds c = (omega arith, running-none _ _ _ _ _ (c .before .pre .1 .1 .1 .0) (c .before .pre .1 .1 .1 .1), search needs)
 
 mul-wide : tie.Need-mul-wide Inv-loop μ-loop
 mul-wide c = search needs
@@ -58,19 +59,19 @@ the-step steps k row strip p q = ap₂ (λ (i j : ℕ). step (getD steps (k * 3)
 
 run-step-requires : tie.Need-run-step-requires Inv-loop μ-loop
 run-step-requires c κs =
-    let start = c .before .before .before .before .before .before .before .before .before in
-    let loop = c .before .before .before .before .before .before .before .loop in
+    let start = c .before .before .before .before .before .before .before .before .before .before in
+    let loop = c .before .before .before .before .before .before .before .before .loop in
     let a = start .args in (
       start .pre .0,
       (
-        subst (Shaped (a .shape .n) (a .shape .r)) (the-step (a .steps .now) (loop .k) _ _ (c .before .before .before .before .wide .ensures) (c .before .before .wide2 .ensures))
+        subst (Shaped (a .shape .n) (a .shape .r)) (the-step (a .steps .now) (loop .k) _ _ (c .before .before .before .before .before .wide .ensures) (c .before .before .before .wide2 .ensures))
             (start .pre .1 .0 .1 (loop .k) (omega arith)),
-        loop .inv .1 .size ∙ start .pre .1 .1 .0,
+        (loop .inv .1 .size ∙ start .pre .1 .1 .0, loop .inv .2),
       ),
     )
 
 element-write-used : tie.Need-element-write-used Inv-loop μ-loop
-element-write-used c = omega (arith, c .before .before .run-step .ensures .below)
+element-write-used c = omega (arith, c .before .before .run-step .ensures .0 .below)
 
 add-k : tie.Need-add-k Inv-loop μ-loop
 add-k c = search needs
@@ -80,12 +81,13 @@ loop-less c = search needs
 
 loop-again : tie.Need-loop-again Inv-loop μ-loop
 loop-again c =
-    let start = c .before .before .before .before .before .before .before .before .before .before .before .before in
-    let loop = c .before .before .before .before .before .before .before .before .before .before .loop in (
+    let start = c .before .before .before .before .before .before .before .before .before .before .before .before .before in
+    let loop = c .before .before .before .before .before .before .before .before .before .before .before .loop in (
       omega arith,
       running-more _ _ _ _ (loop .k) _ _ _ (loop .inv .1) _
-          (the-step (start .args .steps .now) (loop .k) _ _ (c .before .before .before .before .before .before .before .wide .ensures) (c .before .before .before .before .before .wide2 .ensures))
-          _ (c .before .before .run-step .ensures),
+          (the-step (start .args .steps .now) (loop .k) _ _ (c .before .before .before .before .before .before .before .before .wide .ensures) (c .before .before .before .before .before .before .wide2 .ensures))
+          _ (c .before .before .run-step .ensures .0),
+      c .before .before .run-step .ensures .1,
     )
 
 same-length : tie.Need-same-length Inv-loop μ-loop

@@ -2,7 +2,8 @@
 use borrow.Author.Needs.{needs}
 use native.Mathlib.Omega.{arith}
 use Prim.Native.Nat.{_≤_, _-_}
-use mathlib.Core.Path.{sym, _∙_}
+use mathlib.Core.Path.{_≡_, sym, ap, _∙_}
+use lib.ListN.{length}
 use mathlib.Core.Logic.{⊎-elim}
 use Rattle.code.specs.Shift.{shift}
 use Rattle.rebuild.specs.Testing.{Passed}
@@ -11,16 +12,16 @@ use Rattle.rebuild.proofs.testing.unused_zero.Statement.{statement}
 use Rattle.rebuild.proofs.testing.unused_zero.Tie as tie
 
 abbrev Inv-loop : tie.InvT-loop
-Inv-loop shape stripe used m t₀ t = Passed (shift (shape .n) (shape .r) (shape .s)) (shape .e) used stripe t × (t ≤ m)
+Inv-loop shape stripe used m offs₀ t₀ offs t = Passed (shift (shape .n) (shape .r) (shape .s)) (shape .e) used stripe t × (t ≤ m) × (length offs ≡ 33)
 
 abbrev μ-loop : tie.MeasureT-loop
-μ-loop shape stripe used m t₀ t = m - t
+μ-loop shape stripe used m offs₀ t₀ offs t = m - t
 
 add-m : tie.Need-add-m Inv-loop μ-loop
 add-m c = search needs
 
 loop-holds : tie.Need-loop-holds Inv-loop μ-loop
-loop-holds c = (passed-none _ _ _ _, search needs)
+loop-holds c = (passed-none _ _ _ _, search needs, search needs)
 
 element-copy-out-if1 : tie.Need-element-copy-out-if1 Inv-loop μ-loop
 element-copy-out-if1 c = search needs
@@ -30,7 +31,7 @@ wrong-line-requires c κs = search needs
 
 returns : tie.Need-returns Inv-loop μ-loop
 returns c =
-    wrong-tests _ _ _ _ _ (omega arith) (c .before .before .if1 .taken) (sym (c .before .wrong-line .ensures) ∙ c .if2 .taken)
+    wrong-tests _ _ _ _ _ (omega arith) (c .before .before .before .if1 .taken) (sym (c .before .wrong-line .ensures .0) ∙ c .if2 .taken)
 
 add-t : tie.Need-add-t Inv-loop μ-loop
 add-t c = search needs
@@ -41,8 +42,9 @@ loop-less c = search needs
 loop-again : tie.Need-loop-again Inv-loop μ-loop
 loop-again c =
     let inv = c .before .before .before .loop .inv in (
-      ⊎-elim (λ w. passed-right _ _ _ _ _ (sym (w .1 .ensures) ∙ w .2 .left) (inv .0)) (λ w. passed-used _ _ _ _ _ (w .left) (inv .0)) (c .if1 .came),
+      ⊎-elim (λ w. passed-right _ _ _ _ _ (sym (w .2 .ensures .0) ∙ w .3 .left) (inv .0)) (λ w. passed-used _ _ _ _ _ (w .0 .left) (inv .0)) (c .if1 .came),
       omega arith,
+      ⊎-elim (λ w. ap length (w .4) ∙ w .2 .ensures .1) (λ w. ap length (w .1) ∙ inv .2) (c .if1 .came),
     )
 
 returns-2 : tie.Need-returns-2 Inv-loop μ-loop
