@@ -33,7 +33,7 @@ loop-again : tie.Need-loop-again Inv-loop μ-loop
 loop-again c = (omega arith, turn-more _ _ _ _ _ (c .before .before .loop .inv .1) _ (omega arith) (c .next .ensures))
 
 returns : tie.Need-returns Inv-loop μ-loop
-returns c = record { at = λ j l. c .before .loop .inv .1 .set .at j (omega arith) }
+returns c = record { at = λ j l. c .before .loop .inv .1 .set .at j (omega arith); beyond = λ j l. c .before .loop .inv .1 .set .beyond j (omega arith) }
 
 pub turned-spec : {M : Type 1} → statement M
 turned-spec =
