@@ -2,7 +2,7 @@
 use Rattle.std.specs.Prelude.{◌≡◌, ℕ, ◌+◌, ◌<◌, eqb}
 use Rattle.std.proofs.Common.{sym, ◌∙◌, arith}
 use Rattle.std.proofs.Math.Path.{ap}
-use Rattle.code.specs.Xor.{◌⊕◌, ⊕_eq, ⊕_of_eq}
+use Rattle.code.specs.Xor.{⊕_eq, ⊕_of_eq}
 use Rattle.code.specs.Sum.{sum, sum_to, only}
 use Rattle.code.specs.SumLaws.{sum_to_ext, sum_to_one, only_yes, only_no}
 use Rattle.code.specs.Code.{Balanced}

@@ -9,9 +9,9 @@ use Rattle.code.specs.Plan.{Built, Given, Gives, Right, Complete}
 use Rattle.code.specs.Plan as plan
 use Rattle.code.specs.Peel.{peel}
 use Rattle.code.specs.Place.{strip_of, same_strip, same_row, place_strip}
-use Rattle.code.specs.Layout.{Layout, Fair, height, X, row_line, diagonal_line, line, code}
+use Rattle.code.specs.Layout.{Layout, Fair, height, X, row_line, diagonal_line, code}
 use Rattle.code.specs.LayoutLaws.{row_length, row_at, diagonal_length, diagonal_at, diagonal_end, line_row, line_diagonal, layout_within, by_places, X_strip, H_strip, U_strip}
-use Rattle.code.specs.Live.{row, diagonal, Known, survives, built}
+use Rattle.code.specs.Live.{Known, survives, built}
 use Rattle.code.specs.Steps.{Written, line_of, plan_of, BuiltAt, RightStep, by_row, by_diagonal, of_row, of_strip, RightSteps}
 use Rattle.code.specs.Walk.{AllBuilt, Walk}
 

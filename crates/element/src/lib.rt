@@ -1,4 +1,6 @@
 // Elements as ranges of bytes of one buffer: one becomes the sum of others, a sum is tested for zero, a run is added to a part.
+#![tactic(auto)]
+
 mod adder;
 mod kernel;
 

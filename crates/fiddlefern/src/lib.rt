@@ -1,4 +1,6 @@
 // The C boundary: exports, and how an answer becomes one 64-bit number.
+#![tactic(auto)]
+
 mod packing;
 
 ghost use Rattle.fiddlefern.specs.Packed.{JudgeAnswer, EncodeAnswer, WriteAnswer, ReadAnswer, ScrubAnswer, RebuildAnswer};

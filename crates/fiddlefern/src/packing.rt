@@ -27,7 +27,7 @@ pub fn packed_answer(x: Answer) -> u64
 }
 
 // A finding's number, the row that comes with it, and the diagonal or the strip; 0 where none does.
-#[derive(Drop)]
+#[derive(Clone, Copy)]
 struct Found {
     number: u64,
     row: usize,

@@ -1,4 +1,6 @@
 // What is wrong with a stripe: how many rows and diagonals have a wrong parity, and which element that finds.
+#![tactic(auto)]
+
 ghost use Rattle.std.specs.Prelude.{◌≡◌, ◌+◌, ◌≤◌, ◌<◌, length};
 ghost use Rattle.code.specs.Layout.{line};
 ghost use Rattle.code.specs.Shift.{shift};
@@ -11,7 +13,7 @@ ghost use Rattle.finding.specs.Tally.{Tallied};
 use lines::wrong_line;
 use shape::Shape;
 
-#[derive(Drop)]
+#[derive(Clone, Copy)]
 pub enum Finding {
     Sound,
     // H of this row.
@@ -24,7 +26,7 @@ pub enum Finding {
 }
 
 // How many rows have a wrong H and how many diagonals a wrong U, and what that finds.
-#[derive(Drop)]
+#[derive(Clone, Copy)]
 pub struct Counts {
     pub rows: usize,
     pub diagonals: usize,
@@ -32,7 +34,7 @@ pub struct Counts {
 }
 
 // How many of a run of lines are wrong, and the first that is; where none is, the run's end.
-#[derive(Drop)]
+#[derive(Clone, Copy)]
 struct Tally {
     count: usize,
     first: usize,

@@ -1,4 +1,6 @@
 // Short write: a run of bytes of one data element, with H of its row and U of its diagonal.
+#![tactic(auto)]
+
 ghost use Rattle.std.specs.Prelude.{◌≡◌, ◌+◌, ◌-◌, ◌*◌, ◌≤◌, ◌<◌, length, get_or};
 ghost use Rattle.code.specs.Shift.{shift};
 ghost use Rattle.shape.specs.Limits.{Limits};
@@ -10,7 +12,7 @@ use lines::place;
 use shape::Shape;
 
 // The places that a write touches: the data element, H of its row and U of its diagonal.
-#[derive(Drop)]
+#[derive(Clone, Copy)]
 struct Touched {
     pub x: usize,
     pub h: usize,

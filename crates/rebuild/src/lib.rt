@@ -1,4 +1,6 @@
 // Rebuild: up to two lost strips given back from the others, or the answer that no sound stripe agrees with them.
+#![tactic(auto)]
+
 pub mod clearing;
 mod mending;
 mod stepping;

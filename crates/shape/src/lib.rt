@@ -1,4 +1,6 @@
 // Numbers in, a judged shape out: a good shape with its size, or the refusal.
+#![tactic(auto)]
+
 pub mod bound;
 pub mod limits;
 pub mod lost;
@@ -14,7 +16,7 @@ pub use limits::{Limited, Shape, within};
 pub use pairs::First;
 pub use refusal::{Answer, Refusal};
 
-#[derive(Drop)]
+#[derive(Clone, Copy)]
 pub enum Judged {
     // With the bytes of its stripe.
     Good(Shape, usize),

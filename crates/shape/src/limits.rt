@@ -7,7 +7,7 @@ ghost use Rattle.shape.specs.Answers.{Sized, Among};
 use crate::refusal::Refusal;
 
 // n data strips of r rows, shift s, elements of e bytes.
-#[derive(Drop)]
+#[derive(Clone, Copy)]
 pub struct Shape {
     pub n: usize,
     pub r: usize,
@@ -15,7 +15,7 @@ pub struct Shape {
     pub e: usize,
 }
 
-#[derive(Drop)]
+#[derive(Clone, Copy)]
 pub enum Limited {
     Inside(Shape),
     Refused(Refusal),

@@ -5,7 +5,7 @@ ghost use Rattle.code.specs.Stopped.{Exact};
 ghost use Rattle.shape.specs.Pairs.{MapOf, FirstOf};
 
 // The first failing pair, by lower strip, then by upper strip; or that no pair fails.
-#[derive(Drop)]
+#[derive(Clone, Copy)]
 pub enum First {
     At(usize, usize),
     Nothing,

@@ -2,7 +2,7 @@
 ghost use Rattle.std.specs.Prelude.{◌≡◌};
 ghost use Rattle.shape.specs.Refusal.{number_of, lower_of, upper_of};
 
-#[derive(Drop)]
+#[derive(Clone, Copy)]
 pub enum Refusal {
     Strips,
     Rows,
@@ -18,14 +18,14 @@ pub enum Refusal {
 }
 
 // What a call answers that hands nothing back: it is done, or refused.
-#[derive(Drop)]
+#[derive(Clone, Copy)]
 pub enum Answer {
     Done,
     Refused(Refusal),
 }
 
 // A refusal's number, and the pair that comes with it; 0 and 0 where none does.
-#[derive(Drop)]
+#[derive(Clone, Copy)]
 pub struct Numbers {
     pub number: u64,
     pub lower: usize,

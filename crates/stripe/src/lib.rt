@@ -1,4 +1,6 @@
 // The calls on a stripe: encode, write, read, scrub. Each takes any numbers and any buffer, and checks for itself, in 01's order.
+#![tactic(auto)]
+
 mod encoding;
 mod place;
 mod reading;

@@ -5,7 +5,7 @@ ghost use Rattle.stripe.specs.Scrub.{uncounted};
 use finding::Finding;
 use shape::{Judged, Refusal};
 
-#[derive(Drop)]
+#[derive(Clone, Copy)]
 pub enum Scrubbed {
     // How many rows have a wrong H and how many diagonals a wrong U, and what that finds.
     Counted(usize, usize, Finding),

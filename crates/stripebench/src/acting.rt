@@ -11,13 +11,13 @@ use rebuild::clearing::fill;
 use shape::{Judged, Refusal, Shape};
 
 // The shape that is set, with the bytes of its stripe, which stands at the start of the room.
-#[derive(Drop)]
+#[derive(Clone, Copy)]
 pub enum Current {
     Unset,
     Set(Shape, usize),
 }
 
-#[derive(Drop)]
+#[derive(Clone, Copy)]
 pub struct Acted {
     pub current: Current,
     pub reply: Reply,

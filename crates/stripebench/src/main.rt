@@ -1,4 +1,6 @@
 // Drives the library from records on standard input, and prints a line for each.
+#![tactic(auto)]
+
 mod acting;
 mod calling;
 mod numbers;
@@ -14,7 +16,7 @@ use libc::STDIN_FILENO;
 use records::Record;
 
 // What follows a record: the next one, or the end of the run.
-#[derive(Drop)]
+#[derive(Clone, Copy)]
 pub enum Next {
     Again(Current),
     End,

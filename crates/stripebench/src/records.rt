@@ -3,7 +3,7 @@ ghost use Rattle.std.specs.Prelude.{◌≡◌};
 ghost use Rattle.stripebench.specs.Records.{record_of};
 
 // A call on the stripe that is there.
-#[derive(Drop)]
+#[derive(Clone, Copy)]
 pub enum Call {
     Write,
     Rebuild,
@@ -11,14 +11,14 @@ pub enum Call {
     Read,
 }
 
-#[derive(Drop)]
+#[derive(Clone, Copy)]
 pub enum Action {
     // A shape is judged, and a good one makes a new stripe.
     Judge,
     Stripe(Call),
 }
 
-#[derive(Drop)]
+#[derive(Clone, Copy)]
 pub enum Record {
     // The bytes of its body, and what is done with them.
     Known(usize, Action),

@@ -5,7 +5,7 @@ ghost use Rattle.shape.specs.Refusal.{number_of};
 use shape::Refusal;
 
 // The number of a refusal, or 0 with what comes with it.
-#[derive(Drop)]
+#[derive(Clone, Copy)]
 pub enum Reply {
     Refused(u64),
     Done,

@@ -6,7 +6,7 @@ ghost use Rattle.code.specs.Live.{diagonal};
 ghost use Rattle.walker.specs.Search.{Case, OpenAt, NextOn, FoundOn, FoundIn, StripBuilt};
 
 // The row and the strip of an element, or that there is none.
-#[derive(Drop)]
+#[derive(Clone, Copy)]
 pub enum Found {
     At(usize, usize),
     Nothing,

@@ -1,4 +1,6 @@
 // The walker: which lost elements chains of rows and diagonals build, and by which steps. It sees the map of diagonals and flags, no bytes.
+#![tactic(auto)]
+
 mod find;
 
 ghost use Rattle.std.specs.Prelude.{◌≡◌, ◌+◌, ◌<◌, ◌≤◌, length};
@@ -16,7 +18,7 @@ use crate::find::{Found, lone_in_row, lone_on_diagonal, look, strip_built};
 pub use find::wide;
 
 // What a walk answers: how many steps it wrote down, and whether they build every lost element.
-#[derive(Drop)]
+#[derive(Clone, Copy)]
 pub struct Outcome {
     pub count: usize,
     pub whole: bool,

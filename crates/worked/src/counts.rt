@@ -5,7 +5,7 @@ use libc::STDOUT_FILENO;
 use std::num::wrapping_add_u64;
 
 // What came of damage to the survivors of one lost set. `unused`: of those refused, the parities of lines that no step uses.
-#[derive(Drop)]
+#[derive(Clone, Copy)]
 pub(crate) struct Seen {
     survivors: u64,
     refused: u64,
@@ -51,7 +51,7 @@ impl Seen {
 
 // Shapes accepted; lost sets, and those that came back; unused lines whose damaged parity was refused, and sets without one (tight);
 // survivors damaged, those refused, those that another sound stripe agrees with; sets where no damage was refused, and where all was.
-#[derive(Drop)]
+#[derive(Clone, Copy)]
 pub(crate) struct Counts {
     shapes: u64,
     sets: u64,

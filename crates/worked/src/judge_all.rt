@@ -3,7 +3,7 @@ use libc::STDOUT_FILENO;
 use shape::{Judged, Refusal};
 
 // How many inputs gave each number, and the sums of the pairs' strips.
-#[derive(Drop)]
+#[derive(Clone, Copy)]
 struct Tally {
     good: u64,
     strips: u64,

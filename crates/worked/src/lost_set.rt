@@ -10,7 +10,7 @@ use stripe::Scrubbed;
 
 // What rebuild makes of damaged survivors: 10 and the lost strips zero; or 0 and a sound stripe, other than the one that was damaged; both with
 // the survivors kept as they stand. Wrong is anything else.
-#[derive(Drop)]
+#[derive(Clone, Copy)]
 pub(crate) enum Damaged {
     Refused,
     Other,

@@ -1,4 +1,6 @@
 // Runs the library on worked cases; what it prints is held to the file stdout, which independent programs or the paper gave.
+#![tactic(auto)]
+
 mod counts;
 mod erasures;
 mod judge_all;

@@ -1,0 +1,12 @@
+-- `delta` meets its contract: old and new bytes added into a local. Assumes nothing.
+use Prim.Native.Nat.{◌≤◌, ◌+◌, ◌-◌}
+use lib.ListN.{get_or, replicate}
+use Rattle.code.specs.Xor.{◌⊕◌}
+use Rattle.element.specs.Filled.{Filled}
+use Rattle.element.proofs.adder.delta.Given as goal
+
+abbrev pub invariant-loop-t : goal.invariant-loop-t
+invariant-loop-t l = Filled (replicate 128 0) 0 l.t (λ k. get_or l.s (l.d + k) 0 ⊕ get_or l.v (l.c + k) 0) l.a × (l.t ≤ l.m)
+
+abbrev pub decreases-loop-t : goal.decreases-loop-t
+decreases-loop-t l = l.m - l.t
