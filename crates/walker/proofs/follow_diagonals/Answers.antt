@@ -1,0 +1,24 @@
+-- `walker::follow_diagonals` meets its contract: the diagonals passed give nothing, by the laws of `Sweep`. Assumes nothing.
+use Prim.Native.Nat.{◌-◌, ◌≤◌}
+use native.Mathlib.Omega.{arith}
+use borrow.Author.Rules.{rules}
+use Rattle.code.specs.Layout.{pair}
+use Rattle.code.specs.Drawn.{drawn}
+use Rattle.walker.specs.Sweep.{Swept, diagonal_passed, swept_end}
+use Rattle.walker.proofs.follow_diagonals.Goals as goal
+
+pub loop-d-init : goal.loop-d-init
+loop-d-init c =
+    (omega arith, c.requires.2)
+
+pub diag_step-k-requires : goal.diag_step-k-requires
+diag_step-k-requires c =
+    (c.requires.0, c.requires.1, c.loop-d-test.true, c.loop-d.invariant.1.state)
+
+pub loop-d-preserved : goal.loop-d-preserved
+loop-d-preserved c =
+    (omega arith, diagonal_passed c.loop-d.invariant.1 c.diag_step-k.ensures)
+
+pub returns : goal.returns
+returns c =
+    swept_end (omega arith) (omega arith) c.loop-d.invariant.1

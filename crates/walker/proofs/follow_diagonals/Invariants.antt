@@ -1,0 +1,14 @@
+-- `walker::follow_diagonals` meets its contract: the diagonals passed give nothing, by the laws of `Sweep`. Assumes nothing.
+use Prim.Native.Nat.{◌-◌, ◌≤◌}
+use native.Mathlib.Omega.{arith}
+use borrow.Author.Rules.{rules}
+use Rattle.code.specs.Layout.{pair}
+use Rattle.code.specs.Drawn.{drawn}
+use Rattle.walker.specs.Sweep.{Swept, diagonal_passed, swept_end}
+use Rattle.walker.proofs.follow_diagonals.Given as goal
+
+abbrev pub invariant-loop-d : goal.invariant-loop-d
+invariant-loop-d l = (l.d ≤ l.n) × Swept (drawn l.map l.home l.n l.r) (pair l.a l.b) l.built l.steps l.k l.r l.d
+
+abbrev pub decreases-loop-d : goal.decreases-loop-d
+decreases-loop-d l = l.n - l.d

@@ -1,0 +1,24 @@
+-- `walker::follow_rows` meets its contract: the rows passed give nothing, by the laws of `Sweep`. Assumes nothing.
+use Prim.Native.Nat.{◌-◌, ◌≤◌}
+use native.Mathlib.Omega.{arith}
+use borrow.Author.Rules.{rules}
+use Rattle.code.specs.Layout.{pair}
+use Rattle.code.specs.Drawn.{drawn}
+use Rattle.walker.specs.Sweep.{Swept, swept_none, row_passed, swept_end}
+use Rattle.walker.proofs.follow_rows.Goals as goal
+
+pub loop-i-init : goal.loop-i-init
+loop-i-init c =
+    (omega arith, swept_none c.requires.2)
+
+pub row_step-k-requires : goal.row_step-k-requires
+row_step-k-requires c =
+    (c.requires.0, c.requires.1, c.loop-i-test.true, c.loop-i.invariant.1.state)
+
+pub loop-i-preserved : goal.loop-i-preserved
+loop-i-preserved c =
+    (omega arith, row_passed c.loop-i.invariant.1 c.row_step-k.ensures)
+
+pub returns : goal.returns
+returns c =
+    swept_end (omega arith) (omega arith) c.loop-i.invariant.1

@@ -1,0 +1,14 @@
+-- `walker::follow_rows` meets its contract: the rows passed give nothing, by the laws of `Sweep`. Assumes nothing.
+use Prim.Native.Nat.{◌-◌, ◌≤◌}
+use native.Mathlib.Omega.{arith}
+use borrow.Author.Rules.{rules}
+use Rattle.code.specs.Layout.{pair}
+use Rattle.code.specs.Drawn.{drawn}
+use Rattle.walker.specs.Sweep.{Swept, swept_none, row_passed, swept_end}
+use Rattle.walker.proofs.follow_rows.Given as goal
+
+abbrev pub invariant-loop-i : goal.invariant-loop-i
+invariant-loop-i l = (l.i ≤ l.r) × Swept (drawn l.map l.home l.n l.r) (pair l.a l.b) l.built l.steps l.k l.i 0
+
+abbrev pub decreases-loop-i : goal.decreases-loop-i
+decreases-loop-i l = l.r - l.i

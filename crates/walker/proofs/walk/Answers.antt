@@ -1,0 +1,47 @@
+-- `walker::walk` meets its contract: it begins with nothing built, and ends with every line passed. Assumes nothing.
+use native.Mathlib.Omega.{arith}
+use borrow.Author.Rules.{rules}
+use Rattle.code.specs.LayoutLaws.{pair_left, pair_right}
+use Rattle.code.specs.Drawn.{drawn}
+use Rattle.walker.specs.Sweep.{begin, h_room, walk_left}
+use Rattle.walker.specs.ClosingLaws.{both_built, walk_built}
+use Rattle.walker.proofs.walk.Goals as goal
+
+pub follow_rows-first-requires : goal.follow_rows-first-requires
+follow_rows-first-requires c =
+    let L = drawn c.args.map.now c.args.home.now c.args.n c.args.r in
+    (c.requires.0, c.requires.1, begin L c.args.a c.args.b c.requires.0 c.requires.2)
+
+pub build_v-more-requires : goal.build_v-more-requires
+build_v-more-requires c =
+    let swept = c.follow_diagonals-data.ensures in
+    (c.requires.0, omega (arith, swept.state.room), swept.state.size)
+
+pub build_h-count-requires : goal.build_h-count-requires
+build_h-count-requires c =
+    let swept = c.follow_diagonals-data.ensures in
+    let L = drawn c.args.map.now c.args.home.now c.args.n c.args.r in (
+      c.requires.0.strips,
+      c.requires.0.rows,
+      c.requires.0.within,
+      omega (arith, c.build_v-more.ensures.room, swept.state.room),
+      λ l. omega (arith, c.build_v-more.ensures.room, h_room L c.args.a c.args.b swept.state (omega arith)),
+      c.build_v-more.ensures.size,
+    )
+
+pub returns-then-strip_built-2 : goal.returns-then-strip_built-2
+returns-then-strip_built-2 c =
+    walk_built c.args.map.now c.args.home.now c.args.a c.args.b c.requires.0.ordered c.requires.1
+    c.follow_diagonals-data.ensures.state
+    (both_built c.args.a c.args.b c.strip_built.ensures c.if-strip_built.true c.strip_built-then-strip_built.ensures c.if-strip_built-2.true)
+    c.build_v-more.ensures c.build_h-count.ensures
+
+pub returns-else-strip_built-2 : goal.returns-else-strip_built-2
+returns-else-strip_built-2 c =
+    walk_left c.requires.1 c.follow_diagonals-data.ensures c.args.b (pair_right c.args.a c.args.b)
+    (c.strip_built-then-strip_built.ensures.some c.if-strip_built-2.false)
+
+pub returns-else-strip_built : goal.returns-else-strip_built
+returns-else-strip_built c =
+    walk_left c.requires.1 c.follow_diagonals-data.ensures c.args.a (pair_left c.args.a c.args.b)
+    (c.strip_built.ensures.some c.if-strip_built.false)
