@@ -1,9 +1,6 @@
 -- `walker::build_h` meets its contract: the H of the rows passed were written down. Assumes nothing.
 use Prim.Native.Nat.{◌-◌, ◌≤◌}
-use native.Mathlib.Omega.{arith}
-use borrow.Author.Rules.{rules}
 use Rattle.walker.specs.Closing.{WrittenH}
-use Rattle.walker.specs.ClosingLaws.{h_kept, h_none, h_more, h_all}
 use Rattle.walker.proofs.build_h.Given as goal
 
 abbrev pub invariant-loop-h : goal.invariant-loop-h

@@ -2,7 +2,6 @@
 use mathlib.Core.Logic.{inl, inr}
 use mathlib.Core.Path.{◌∙◌}
 use native.Mathlib.Omega.{arith}
-use borrow.Author.Rules.{rules}
 use Rattle.walker.specs.ClosingLaws.{built_v_none, built_v_one, built_v_two}
 use Rattle.walker.proofs.build_v.Goals as goal
 

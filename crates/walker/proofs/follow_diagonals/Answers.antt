@@ -1,10 +1,6 @@
 -- `walker::follow_diagonals` meets its contract: the diagonals passed give nothing, by the laws of `Sweep`. Assumes nothing.
-use Prim.Native.Nat.{◌-◌, ◌≤◌}
 use native.Mathlib.Omega.{arith}
-use borrow.Author.Rules.{rules}
-use Rattle.code.specs.Layout.{pair}
-use Rattle.code.specs.Drawn.{drawn}
-use Rattle.walker.specs.Sweep.{Swept, diagonal_passed, swept_end}
+use Rattle.walker.specs.Sweep.{diagonal_passed, swept_end}
 use Rattle.walker.proofs.follow_diagonals.Goals as goal
 
 pub loop-d-init : goal.loop-d-init

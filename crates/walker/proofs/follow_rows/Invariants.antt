@@ -1,10 +1,8 @@
 -- `walker::follow_rows` meets its contract: the rows passed give nothing, by the laws of `Sweep`. Assumes nothing.
 use Prim.Native.Nat.{◌-◌, ◌≤◌}
-use native.Mathlib.Omega.{arith}
-use borrow.Author.Rules.{rules}
 use Rattle.code.specs.Layout.{pair}
 use Rattle.code.specs.Drawn.{drawn}
-use Rattle.walker.specs.Sweep.{Swept, swept_none, row_passed, swept_end}
+use Rattle.walker.specs.Sweep.{Swept}
 use Rattle.walker.proofs.follow_rows.Given as goal
 
 abbrev pub invariant-loop-i : goal.invariant-loop-i

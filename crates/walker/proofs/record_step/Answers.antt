@@ -1,5 +1,4 @@
 -- `walker::record_step` meets its contract. Assumes nothing.
-use borrow.Author.Rules.{rules}
 use Rattle.walker.specs.Written.{recorded}
 use Rattle.walker.proofs.record_step.Goals as goal
 

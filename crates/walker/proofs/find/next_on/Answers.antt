@@ -1,11 +1,6 @@
 -- `walker::find::next_on` meets its contract: every lost element of the diagonal in the rows passed is flagged. Assumes nothing.
-use Prim.Native.Nat.{◌-◌, ◌≤◌}
 use native.Mathlib.Omega.{arith}
-use borrow.Author.Rules.{rules}
-use Rattle.code.specs.Layout.{pair}
 use Rattle.code.specs.LayoutLaws.{pair_left, pair_right}
-use Rattle.code.specs.Drawn.{cell}
-use Rattle.walker.specs.Search.{Passed}
 use Rattle.walker.specs.SearchLaws.{next_at, next_nothing, passed_none, passed_end, passed_more, passed_at}
 use Rattle.walker.proofs.find.next_on.Goals as goal
 

@@ -1,7 +1,6 @@
 -- `walker::find::open_at` meets its contract: each return is a law of `SearchLaws`. Assumes nothing.
 use mathlib.Core.Path.{sym, ◌∙◌}
 use native.Mathlib.Omega.{arith}
-use borrow.Author.Rules.{rules}
 use Rattle.walker.specs.SearchLaws.{open_no, open_test}
 use Rattle.walker.proofs.find.open_at.Goals as goal
 

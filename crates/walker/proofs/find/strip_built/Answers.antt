@@ -1,11 +1,9 @@
 -- `walker::find::strip_built` meets its contract: the rows passed are flagged. Assumes nothing.
-use Prim.Native.Nat.{ℕ, ◌-◌, ◌<◌, ◌≤◌}
 use mathlib.Core.Path.{sym}
 use native.Mathlib.Omega.{arith}
-use borrow.Author.Rules.{rules}
 use borrow.Author.Count.{below_more}
 use Rattle.code.specs.SumLaws.{clash}
-use Rattle.walker.specs.Flags.{Marked, unset, is_set}
+use Rattle.walker.specs.Flags.{unset, is_set}
 use Rattle.walker.proofs.find.strip_built.Goals as goal
 
 pub returns-then-c-n : goal.returns-then-c-n
