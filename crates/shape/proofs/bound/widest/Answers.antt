@@ -1,5 +1,4 @@
 -- `widest` meets its contract: the table is q's, every entry computed. Assumes nothing.
-use borrow.Author.Rules.{rules}
 use native.Mathlib.Omega.{arith}
 use native.Mathlib.Nat.{div-le_self}
 use Prim.Native.Nat.{ℕ, ◌<◌, ◌≤◌}
@@ -9,8 +8,7 @@ use lib.ListN.{get_or}
 use Rattle.code.specs.Sum.{table}
 use Rattle.code.specs.SumLaws.{get_or_table}
 use Rattle.code.specs.Bound.{q, pr, searched}
-use Rattle.shape.proofs.bound.widest.Statement.{statement}
-use Rattle.shape.proofs.bound.widest.Tie as tie
+use Rattle.shape.proofs.bound.widest.Goals as goal
 
 entries : List ℕ
 entries =
@@ -27,18 +25,13 @@ small : (n : ℕ) → q n ≤ n
 unfolding q
 small n = div-le_self n (pr n)
 
-array_read_result : tie.Need-array-read-result
-array_read_result c = search rules
-
-cast_result : tie.Need-overflow-cast-result
+pub overflow_cast-result : goal.overflow_cast-result
 unfolding entries
-cast_result c = omega (arith, entry c.args.n (omega arith), small c.args.n)
+overflow_cast-result c =
+    omega (arith, entry c.args.n (omega arith), small c.args.n)
 
-returns : tie.Need-returns
+pub returns : goal.returns
 unfolding entries
 returns c =
     let e = entry c.args.n (omega arith) in
     record { is = e; below = omega (arith, small c.args.n) }
-
-pub widest_spec : {M : Type 1} → statement M
-widest_spec = tie.close (tie.spec array_read_result cast_result returns)

@@ -2,15 +2,11 @@
 use native.Mathlib.Omega.{arith}
 use lib.Count.{ones-le}
 use Rattle.shape.specs.MaskLaws.{ones_count}
-use Rattle.shape.proofs.lost.lost_count.Statement.{statement}
-use Rattle.shape.proofs.lost.lost_count.Tie as tie
+use Rattle.shape.proofs.lost.lost_count.Goals as goal
 
-returns : tie.Need-returns
+pub returns : goal.returns
 returns c =
     record {
       is = ones_count 64 c.args.mask c.ranges.mask.fits;
       below = omega (arith, ones-le 64 c.args.mask c.ranges.mask.fits);
     }
-
-pub lost_count_spec : {M : Type 1} → statement M
-lost_count_spec = tie.close (tie.spec returns)

@@ -1,0 +1,15 @@
+-- `shape::judge_shape` meets its contract: the bound decides; a shape with r above n - s fails at strips 0 and 1. Assumes nothing.
+use mathlib.Core.Path.{sym, ◌∙◌}
+use native.Mathlib.Omega.{arith}
+use Rattle.code.specs.Exact.{over_first}
+use Rattle.shape.specs.GoodTest.{test_good}
+use Rattle.shape.specs.JudgeLaws.{judges_weak, judges_good}
+use Rattle.shape.proofs.judge_shape.Goals as goal
+
+pub returns-then-good : goal.returns-then-good
+returns-then-good c =
+    judges_good _ _ _ _ c.requires (test_good _ _ _ (sym c.good.ensures ∙ c.if-good.true)) _ c.size-size.ensures.bytes
+
+pub returns-then-n-r : goal.returns-then-n-r
+returns-then-n-r c =
+    judges_weak _ _ _ _ c.requires 0 1 (over_first _ _ _ (omega (arith, c.requires.n_low)) c.requires.s_high c.if-n-r.true)

@@ -1,0 +1,11 @@
+-- `meets` meets its contract. Assumes nothing.
+use native.Mathlib.Omega.{arith}
+use native.Mathlib.Nat.{mod-lt}
+use mathlib.Core.Path.{refl}
+use Rattle.code.specs.Shift as shift
+use Rattle.shape.proofs.limits.Shape.meets.Goals as goal
+
+pub returns : goal.returns
+unfolding shift.meets
+returns c =
+    record { is = refl; below = mod-lt _ (omega arith) }
