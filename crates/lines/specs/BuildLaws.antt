@@ -3,7 +3,7 @@
 use Rattle.std.specs.Prelude.{◌≡◌, List, ℕ, ◌+◌, ◌-◌, ◌*◌, ◌≤◌, ◌<◌, length, get_or, set, take}
 use Rattle.std.proofs.Common.{sym, ap, ◌∙◌, subst, arith, length-set, length-take-le, get_or-take, get_or-set_same, get_or-set_other}
 use Rattle.std.proofs.Math.Decide.{ℕ_discrete}
-use Rattle.code.specs.Xor.{◌⊕◌, ⊕_of_eq}
+use Rattle.code.specs.Xor.{⊕_of_eq}
 use Rattle.code.specs.Sum.{sum}
 use Rattle.code.specs.SumLaws.{sum_ext}
 use Rattle.code.specs.Place.{at, inside}

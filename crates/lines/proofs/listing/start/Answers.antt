@@ -1,0 +1,15 @@
+-- `start` meets its contract: where an element starts fits. Assumes nothing.
+use native.Mathlib.Omega.{arith}
+use mathlib.Core.Path.{ap}
+use Prim.Native.Nat.{ℕ, ◌*◌}
+use Rattle.code.specs.Place.{inside}
+use Rattle.shape.specs.Answers.{bytes_most}
+use Rattle.lines.proofs.listing.start.Goals as goal
+
+pub overflow_mul-result : goal.overflow_mul-result
+overflow_mul-result c =
+    omega (arith, inside c.args.shape.e c.place.result _ c.place.ensures.below, bytes_most _ _ _ _ c.requires.limits)
+
+pub returns : goal.returns
+returns c =
+    ap (λ (p : ℕ). p * c.args.shape.e) c.place.ensures.is
