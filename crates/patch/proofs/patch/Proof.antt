@@ -39,7 +39,7 @@ slice_aggregate_block : tie.Need-slice-aggregate-block
 slice_aggregate_block c = sym (block c.before)
 
 add_at_requires : tie.Need-add-at-requires
-add_at_requires c κs = let l = block c.before.before in let p = c.before.before.before.before.before.before.before.before.before.requires.0.x_Fits in omega arith
+add_at_requires c κs = let l = block c.before.before in let p = c.before.before.before.before.before.before.before.before.before.requires.0.x_fits in omega arith
 
 add_at_requires_2 : tie.Need-add-at-requires-2
 add_at_requires_2 c κs =
