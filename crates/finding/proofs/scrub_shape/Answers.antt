@@ -1,0 +1,20 @@
+-- `scrub_shape` meets its contract: the first r lines are the rows, the n after them the diagonals. Assumes nothing.
+use native.Mathlib.Omega.{arith}
+use Rattle.code.specs.Shift.{shift}
+use Rattle.code.specs.ShiftLaws.{shift_fair}
+use Rattle.finding.specs.TallyLaws.{tallied_below}
+use Rattle.finding.specs.WrongLaws.{tallied_rows, tallied_diagonals}
+use Rattle.finding.specs.FoundLaws.{finds_tallied}
+use Rattle.finding.proofs.scrub_shape.Goals as goal
+
+pub found-finding-requires : goal.found-finding-requires
+found-finding-requires c =
+    record { limits = c.requires.limits; row = λ h. omega (arith, tallied_below _ _ _ _ c.wrong_lines-rows.ensures h); diagonal = λ h. omega (arith, tallied_below _ _ _ _ c.wrong_lines-diagonals.ensures h) }
+
+pub returns : goal.returns
+returns c =
+    let L = shift c.args.shape.n c.args.shape.r c.args.shape.s in
+    let p = tallied_rows L c.args.shape.e c.args.stripe.now _ _ c.wrong_lines-rows.ensures in
+    let fair = shift_fair c.args.shape.n c.args.shape.r c.args.shape.s (omega arith) in
+    let q = tallied_diagonals L c.args.shape.e c.args.stripe.now fair _ _ c.wrong_lines-diagonals.ensures in
+    finds_tallied L c.args.shape.e c.args.stripe.now _ _ _ _ p q _ c.found-finding.ensures

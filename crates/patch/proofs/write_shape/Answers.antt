@@ -1,0 +1,60 @@
+-- `write_shape` meets its contract: block after block, and what is left, each a patch of three places. Assumes nothing.
+use native.Mathlib.Omega.{arith}
+use mathlib.Core.Path.{◌∙◌}
+use lib.ListN.{length}
+use Rattle.code.specs.Shift.{shift}
+use Rattle.code.specs.ShiftLaws.{shift_fair}
+use Rattle.patch.specs.PatchLaws.{touches_spots, touches_patched, patched_none, patched_more, patched_all}
+use Rattle.patch.specs.WrittenLaws.{patched_written}
+use Rattle.patch.proofs.write_shape.Goals as goal
+
+pub loop-c-init : goal.loop-c-init
+loop-c-init c =
+    (omega arith, patched_none _ _ _ _ _ _ _)
+
+pub patch-requires : goal.patch-requires
+patch-requires c =
+    record {
+      spots = (touches_spots (shift c.args.shape.n c.args.shape.r c.args.shape.s) (shift_fair c.args.shape.n c.args.shape.r c.args.shape.s (omega arith)) c.args.row c.args.strip c.requires.place.0 c.requires.place.1
+          c.args.shape.e c.loop-c.stripe c.args.stripe.now c.places-t.result c.requires.size c.loop-c.invariant.1.long c.places-t.ensures);
+      block = (omega arith, omega arith, omega arith, omega arith);
+    }
+
+pub loop-c-preserved : goal.loop-c-preserved
+loop-c-preserved c =
+    (omega arith, patched_more _ _ _ _ _ c.loop-c.c 128 c.args.run.now _ _ _ (omega arith) c.loop-c.invariant.1 c.patch.ensures)
+
+pub patch-requires-then-m-gt0 : goal.patch-requires-then-m-gt0
+patch-requires-then-m-gt0 c =
+    record {
+      spots = (touches_spots (shift c.args.shape.n c.args.shape.r c.args.shape.s) (shift_fair c.args.shape.n c.args.shape.r c.args.shape.s (omega arith)) c.args.row c.args.strip c.requires.place.0 c.requires.place.1
+          c.args.shape.e c.loop-c.stripe c.args.stripe.now c.places-t.result c.requires.size c.loop-c.invariant.1.long c.places-t.ensures);
+      block = (omega arith, omega arith, omega arith, omega arith);
+    }
+
+pub shape_of-stripe-then-m-gt0 : goal.shape_of-stripe-then-m-gt0
+shape_of-stripe-then-m-gt0 c =
+    c.patch-then-m-gt0.ensures.long ∙ c.loop-c.invariant.1.long
+
+pub returns-then-m-gt0 : goal.returns-then-m-gt0
+returns-then-m-gt0 c =
+    let a = c.args in
+    let L = shift a.shape.n a.shape.r a.shape.s in
+    let F = shift_fair a.shape.n a.shape.r a.shape.s (omega arith) in
+    patched_written L a.shape.e a.row a.strip a.offset a.run.now a.stripe.now F c.requires.place.0 c.requires.place.1 c.requires.size _
+    (touches_patched L F a.row a.strip c.requires.place.0 c.requires.place.1 a.shape.e a.offset (length a.run.now) _ _ _ c.places-t.result c.places-t.ensures
+    (patched_all _ _ _ _ _ _ _ _ _ _ (omega arith) (omega arith)
+    (patched_more _ _ _ _ _ c.loop-c.c _ c.args.run.now _ _ _ (omega arith) c.loop-c.invariant.1 c.patch-then-m-gt0.ensures)))
+
+pub shape_of-stripe-else-m-gt0 : goal.shape_of-stripe-else-m-gt0
+shape_of-stripe-else-m-gt0 c =
+    c.loop-c.invariant.1.long
+
+pub returns-else-m-gt0 : goal.returns-else-m-gt0
+returns-else-m-gt0 c =
+    let a = c.args in
+    let L = shift a.shape.n a.shape.r a.shape.s in
+    let F = shift_fair a.shape.n a.shape.r a.shape.s (omega arith) in
+    patched_written L a.shape.e a.row a.strip a.offset a.run.now a.stripe.now F c.requires.place.0 c.requires.place.1 c.requires.size _
+    (touches_patched L F a.row a.strip c.requires.place.0 c.requires.place.1 a.shape.e a.offset (length a.run.now) _ _ _ c.places-t.result c.places-t.ensures
+    (patched_all _ _ _ _ _ _ _ _ _ _ (omega arith) (omega arith) c.loop-c.invariant.1))
