@@ -1,6 +1,6 @@
 -- Laws of write, on any buffer of a stripe's length: every line's sum stays, so a sound stripe stays sound, and is what encoding the changed
 -- data from the start leaves. A refused write changes nothing. Assumes nothing.
-use Rattle.std.specs.Prelude.{◌≡◌, ◌≢◌, Bool, List, ℕ, ◌+◌, ◌-◌, ◌*◌, ◌<◌, length}
+use Rattle.std.specs.Prelude.{◌≡◌, ◌≢◌, Bool, List, ℕ, ◌+◌, ◌*◌, ◌<◌, length}
 use Rattle.std.proofs.Common.{sym, ◌∙◌, eq-eqb, ne_eqb}
 use Rattle.std.proofs.Math.Path.{ap}
 use Rattle.code.specs.Sum.{sum, pick}

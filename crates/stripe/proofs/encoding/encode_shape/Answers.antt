@@ -1,0 +1,33 @@
+-- `encode_shape` meets its contract: the data is as at entry, and every line passed sums to zero. Assumes nothing.
+use borrow.Author.Rules.{rules}
+use native.Mathlib.Omega.{arith}
+use mathlib.Core.Path.{◌∙◌}
+use Rattle.code.specs.ShiftLaws.{shift_fair}
+use Rattle.stripe.specs.ParityLaws.{last_within}
+use Rattle.stripe.specs.EncodeLaws.{encoded_none, encoded_more, encoded_all}
+use Rattle.stripe.proofs.encoding.encode_shape.Goals as goal
+
+pub loop-t-init : goal.loop-t-init
+loop-t-init c =
+    (encoded_none _ _ _, search rules)
+
+pub build-requires : goal.build-requires
+build-requires c =
+    let inv = c.loop-t.invariant in record { limits = c.requires.limits; line = (omega arith, last_within _ _ _ (omega arith) c.parity_in.ensures); size = inv.0.size ∙ c.requires.size; room = inv.1 }
+
+pub loop-t-preserved : goal.loop-t-preserved
+loop-t-preserved c =
+    let a = c.args.shape in
+    let built = c.build.ensures in (
+      encoded_more _ (shift_fair a.n a.r a.s (omega arith)) _ _ _ _ c.loop-t.invariant.0 _ _ (omega arith) c.parity_in.ensures built.builds,
+      built.room,
+    )
+
+pub shape_of-stripe : goal.shape_of-stripe
+shape_of-stripe c =
+    c.loop-t.invariant.0.size
+
+pub returns : goal.returns
+returns c =
+    let a = c.args.shape in
+    encoded_all _ (shift_fair a.n a.r a.s (omega arith)) _ _ _ _ c.loop-t.invariant.0 (omega arith)
