@@ -1,0 +1,23 @@
+-- `fill` meets its contract: the first t of the m bytes are the value. Assumes nothing.
+use borrow.Author.Rules.{rules}
+use native.Mathlib.Omega.{arith}
+use mathlib.Core.Path.{refl}
+use Rattle.element.specs.FilledLaws.{filled_none, filled_more, filled_all}
+use Rattle.rebuild.proofs.clearing.fill.Goals as goal
+
+pub loop-t-init : goal.loop-t-init
+loop-t-init c =
+    (filled_none _ _ _, search rules)
+
+pub loop-t-preserved : goal.loop-t-preserved
+loop-t-preserved c =
+    let l = c.loop-t.invariant.0.long in
+    (filled_more c.args.stripe.now c.args.d c.loop-t.t _ c.loop-t.stripe _ _ refl (omega arith) refl c.loop-t.invariant.0, omega arith)
+
+pub shape_of-stripe : goal.shape_of-stripe
+shape_of-stripe c =
+    c.loop-t.invariant.0.long
+
+pub returns : goal.returns
+returns c =
+    filled_all _ _ _ _ _ _ c.loop-t.invariant.1 c.loop-t-test.false c.loop-t.invariant.0

@@ -1,0 +1,35 @@
+-- `mend` meets its contract: an empty mask needs a test alone, and another's first and last lost strip are the pair that it loses. Assumes nothing.
+use borrow.Author.Rules.{rules}
+use native.Mathlib.Omega.{arith}
+use Prim.Native.Nat.{ℕ}
+use mathlib.Core.Path.{sym, ap, ◌∙◌}
+use Rattle.code.specs.ShiftLaws.{shift_fair}
+use Rattle.shape.specs.Mask.{lost_in}
+use Rattle.shape.specs.LostLaws.{first_last, pair_lost}
+use Rattle.shape.specs.MaskEnds.{above_last}
+use Rattle.rebuild.specs.LostStrips.{empty_lost}
+use Rattle.rebuild.specs.PlanRun.{zeros}
+use Rattle.rebuild.specs.MendLaws.{mends_lost, mends_none}
+use Rattle.rebuild.proofs.mending.mend.Goals as goal
+
+pub unused_zero-requires : goal.unused_zero-requires
+unused_zero-requires c =
+    record { limits = c.requires.limits.0; size = c.requires.size }
+
+pub returns-then-mask-eq0 : goal.returns-then-mask-eq0
+returns-then-mask-eq0 c =
+    mends_none _ (shift_fair c.args.shape.n c.args.shape.r c.args.shape.s (omega (arith, c.requires.limits.0.n_low))) _ _
+    (λ j. ap (λ (m : ℕ). lost_in m j) ((search rules)) ∙ empty_lost j) c.args.stripe.now _
+    (record { size = c.requires.size; bytes = λ v lv. search rules }) (λ t. zeros 64 t) _ c.unused_zero.ensures
+
+pub mend_pair-requires : goal.mend_pair-requires
+mend_pair-requires c =
+    let last = c.last_lost-b.ensures in
+    let ordered = first_last (lost_in c.args.mask) _ _ c.first_lost-a.ensures last in
+    let within = above_last c.args.mask c.args.shape.n _ c.requires.lost.0 last in record { limits = c.requires.limits; strips = (omega arith, omega arith); size = c.requires.size }
+
+pub returns : goal.returns
+returns c =
+    let first = c.first_lost-a.ensures in
+    let last = c.last_lost-b.ensures in
+    mends_lost _ _ _ (lost_in c.args.mask) (λ j. sym (pair_lost (lost_in c.args.mask) _ _ first last c.requires.lost.1 j)) _ _ _ c.mend_pair.ensures
