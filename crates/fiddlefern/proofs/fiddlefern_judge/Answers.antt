@@ -1,0 +1,21 @@
+-- `fiddlefern::fiddlefern_judge` meets its contract: it is judge's answer, packed. Assumes nothing.
+use native.Mathlib.Omega.{arith}
+use Rattle.shape.specs.JudgedCall.{refused_small}
+use Rattle.fiddlefern.specs.Exports.{size_fits, answer_good, answer_refused}
+use Rattle.fiddlefern.proofs.fiddlefern_judge.Goals as goal
+
+pub overflow_mul-result : goal.overflow_mul-result
+overflow_mul-result c =
+    omega (arith, size_fits _ _ _ _ _ c.judge.ensures _ _ c.in-Good.is)
+
+pub packed-requires : goal.packed-requires
+packed-requires c =
+    refused_small _ _ _ _ _ c.judge.ensures _ c.in-Refused.is
+
+pub returns-in-Good : goal.returns-in-Good
+returns-in-Good c =
+    answer_good _ _ _ _ _ c.judge.ensures _ _ c.in-Good.is
+
+pub returns-in-Refused : goal.returns-in-Refused
+returns-in-Refused c =
+    answer_refused _ _ _ _ _ c.judge.ensures _ c.in-Refused.is _ c.packed.ensures

@@ -1,0 +1,12 @@
+-- `fiddlefern::packing::packed_answer` meets its contract, case by case. Assumes nothing.
+use mathlib.Core.Path.{sym, ap, ◌∙◌}
+use Rattle.fiddlefern.specs.Packed.{answer_packed}
+use Rattle.fiddlefern.proofs.packing.packed_answer.Goals as goal
+
+pub packed-requires : goal.packed-requires
+packed-requires c =
+    c.requires.pair _ c.in-Refused.is
+
+pub returns-in-Refused : goal.returns-in-Refused
+returns-in-Refused c =
+    c.packed.ensures ∙ sym (ap (answer_packed 0) c.in-Refused.is)
