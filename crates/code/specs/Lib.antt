@@ -40,13 +40,8 @@ pub mod Stopped
 -- The shift family and its bound.
 pub mod Circle
 pub mod Shift
-pub mod ShiftLaws
 pub mod Bound
 pub mod Periods
-pub mod Positions
-pub mod Failing
 pub mod Divisor
-pub mod Exact
 pub mod Lookalikes
 pub mod SoundTest
-pub mod Rows

@@ -3,7 +3,6 @@ pub mod Filled
 pub mod FilledLaws
 -- Sums of ranges of bytes, by their offsets.
 pub mod Gather
-pub mod GatherLaws
 -- A run of bytes added to a part.
 pub mod Added
 pub mod AddedLaws

@@ -12,7 +12,7 @@ use Rattle.stripe.specs.EncodeDetermined.{encode_determined}
 use Rattle.stripe.specs.WriteLaws.{write_determined}
 use Rattle.stripe.specs.ReadLaws.{read_check_determined}
 use Rattle.stripe.specs.ScrubTheorems.{scrub_determined}
-use Rattle.rebuild.specs.RebuildDetermined.{rebuild_determined}
+use Rattle.rebuild.proofs.RebuildDetermined.{rebuild_determined}
 use Rattle.fiddlefern.specs.Packed.{refusal_packed, judged_packed, answer_packed, finding_values, counted_packed, scrubbed_packed, SmallFinding, JudgeAnswer, EncodeAnswer, WriteAnswer, ReadAnswer, ScrubAnswer, RebuildAnswer}
 use Rattle.fiddlefern.specs.ScrubSmall.{finding_most}
 

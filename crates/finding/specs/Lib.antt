@@ -2,9 +2,5 @@
 pub mod Found
 -- Wrong lines counted, and the first of them.
 pub mod Tally
-pub mod TallyLaws
-pub mod WrongLaws
-pub mod FoundLaws
 -- One changed element.
 pub mod LinesOf
-pub mod ChangedAt

@@ -11,7 +11,7 @@ use Rattle.code.specs.Place.{at}
 use Rattle.code.specs.Layout.{places, line}
 use Rattle.code.specs.LayoutLaws.{layout_within}
 use Rattle.code.specs.Shift.{shift}
-use Rattle.code.specs.ShiftLaws.{shift_fair}
+use Rattle.code.proofs.ShiftLaws.{shift_fair}
 use Rattle.element.specs.Gather.{Fits, Tells}
 use Rattle.element.specs.Placed.{Offsets, TellsAt}
 use Rattle.element.specs.PlacedLaws.{offsets_fit, tells_places}

@@ -2,5 +2,3 @@
 pub mod Written
 -- A block of it, block after block, and the whole.
 pub mod Patch
-pub mod PatchLaws
-pub mod WrittenLaws

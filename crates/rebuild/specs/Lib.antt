@@ -3,16 +3,12 @@
 pub mod Rebuild
 pub mod RebuildNumber
 pub mod LostStrips
-pub mod RebuildLaws
-pub mod RebuildDetermined
-pub mod RebuildMet
 -- A step, and a plan of steps, run on the bytes.
 pub mod RunTo
 pub mod Stepping
 pub mod SteppingLaws
 pub mod WholePlan
 pub mod RunBytes
-pub mod RunLaws
 pub mod Marks
 pub mod Running
 -- A test of the lines without a mark, and strips cleared.
@@ -21,5 +17,3 @@ pub mod TestingLaws
 pub mod Clear
 pub mod ClearLaws
 pub mod PlanRun
-pub mod MendLaws
-pub mod Call

@@ -14,7 +14,7 @@ use Rattle.code.specs.Layout.{code, pair}
 use Rattle.code.specs.LayoutLaws.{pair_left, pair_right, pair_yes}
 use Rattle.code.specs.Shift.{shift}
 use Rattle.code.specs.Bound.{Good}
-use Rattle.code.specs.Exact.{good_decided}
+use Rattle.code.proofs.Exact.{good_decided}
 use Rattle.shape.specs.Limits.{Limits}
 use Rattle.shape.specs.Mask.{lost_in, above_test, FirstLost, LastLost}
 use Rattle.shape.specs.LostLaws.{first_last, pair_lost}

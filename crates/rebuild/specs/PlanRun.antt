@@ -1,18 +1,12 @@
--- What is left once a right and complete plan has run, whichever it was: the stripe is mended, or no sound stripe agrees with the survivors.
--- Assumes nothing.
+-- What is left once a right and complete plan has run, whichever it was: a plan that has run, and what mend leaves. Assumes nothing.
 -- before, after == the stripe before and after the run    used == the marks of the lines that it used
-use Rattle.std.specs.Prelude.{ℕ, zero, suc, ◌<◌, ◌+◌, ◌≡◌, refl, Bool, true, false, List, length, get_or, replicate}
-use Rattle.code.specs.Sum.{sum}
-use Rattle.code.specs.Place.{strip_of, at}
-use Rattle.code.specs.Layout.{Layout, Fair, height, places, line}
+use Rattle.std.specs.Prelude.{ℕ, ◌≡◌, Bool, true, false, List}
+use Rattle.code.specs.Layout.{Layout}
 use Rattle.code.specs.Plan.{Step}
-use Rattle.code.specs.Sound.{Stripe}
-use Rattle.rebuild.specs.Rebuild.{Kept, Mended, Cleared}
+use Rattle.rebuild.specs.Rebuild.{Mended, Cleared}
 use Rattle.rebuild.specs.RunTo.{RunTo}
-use Rattle.rebuild.specs.RunLaws.{run_none, run_kept, run_mended, run_cleared}
-use Rattle.rebuild.specs.RunBytes.{run_stripe}
-use Rattle.rebuild.specs.WholePlan.{Planned, nothing_planned}
-use Rattle.rebuild.specs.Marks.{Marked, marked_none}
+use Rattle.rebuild.specs.WholePlan.{Planned}
+use Rattle.rebuild.specs.Marks.{Marked}
 
 pub record PlanRun (L : Layout) (e : ℕ) (lost : ℕ → Bool) (before after used : List ℕ) : Type 0 where
   pub plan : ℕ → Step
@@ -25,35 +19,3 @@ pub record PlanRun (L : Layout) (e : ℕ) (lost : ℕ → Bool) (before after us
 pub record Mends (L : Layout) (e : ℕ) (lost : ℕ → Bool) (before after : List ℕ) (x : Bool) : Type 0 where
   pub mended : x ≡ true → Mended L e lost before after
   pub cleared : x ≡ false → Cleared L e lost before after
-
--- a table of zeros has no mark
-pub zeros : (m t : ℕ) → ◌≡◌ {A = ℕ} (get_or (replicate m 0) t 0) 0
-zeros zero t = refl
-zeros (suc m) zero = refl
-zeros (suc m) (suc t) = zeros m t
-
--- where nothing is lost, nothing has to run
-pub no_run : (L : Layout) (e : ℕ) (lost : ℕ → Bool) → ((j : ℕ) → lost j ≡ false) → (s used : List ℕ) → ((t : ℕ) → get_or used t 0 ≡ 0) → PlanRun L e lost s s used
-no_run L e lost none s used clean =
-    record {
-      plan = λ u. record { line = 0; target = 0 };
-      count = 0;
-      planned = nothing_planned L lost none (λ u. record { line = 0; target = 0 });
-      run = run_none L e (λ u. record { line = 0; target = 0 }) s;
-      marks = marked_none (λ u. record { line = 0; target = 0 }) used clean;
-    }
-
-module _ (L : Layout) (F : Fair L) (e : ℕ) (lost : ℕ → Bool) (b a used : List ℕ) (x : PlanRun L e lost b a used) where
-  pub ran_size : length a ≡ length b
-  ran_size = (run_kept L F e lost x.plan x.count x.planned b a x.run).size
-
-  -- every line without a mark sums to zero: mended
-  pub ran_mended : Stripe L e b → ((t : ℕ) → t < L.r + L.n → get_or used t 0 ≡ 0 → (k : ℕ) → k < e → sum (at a e k) (line L t) ≡ 0) → Mended L e lost b a
-  ran_mended s h =
-      run_mended L F e lost x.plan x.count x.planned b a x.run
-      (run_stripe L F e lost x.plan x.count x.planned b a x.run s) (record { zero = λ t lt un. h t lt (x.marks.unmarked t un) })
-
-  -- some line does not: no sound stripe agrees with the survivors
-  pub ran_cleared : (t k : ℕ) → t < L.r + L.n → k < e → (sum (at a e k) (line L t) ≡ 0 → ⊥) → (c : List ℕ) → Kept L e lost a c
-      → ((p i : ℕ) → p < places L → i < e → lost (strip_of (height L) p) ≡ true → at c e i p ≡ 0) → Cleared L e lost b c
-  ran_cleared t k lt lk bad c kept z = run_cleared L F e lost x.plan x.count x.planned b a x.run c t lt (λ h. bad (h k lk)) kept z

@@ -16,7 +16,7 @@ use Rattle.code.specs.Walk.{Walk}
 use Rattle.code.specs.StepsLaws.{steps_right, steps_complete}
 use Rattle.code.specs.Stopped.{walk_exact}
 use Rattle.code.specs.Shift.{shift}
-use Rattle.code.specs.ShiftLaws.{shift_fair, shift_latin}
+use Rattle.code.proofs.ShiftLaws.{shift_fair, shift_latin}
 use Rattle.code.specs.Bound.{Good, wide, narrow}
 use Rattle.shape.specs.Limits.{Limits}
 use Rattle.shape.specs.Map.{Filled, Homes}

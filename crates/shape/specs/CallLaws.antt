@@ -3,7 +3,7 @@ use Rattle.std.specs.Prelude.{◌≡◌, refl, ℕ}
 use Rattle.std.proofs.Common.{sym, ap, ◌∙◌, arith}
 use Rattle.std.proofs.Math.Decide.{ℕ_discrete}
 use Rattle.code.specs.Shift.{shift}
-use Rattle.code.specs.Exact.{first_one}
+use Rattle.code.proofs.Exact.{first_one}
 use Rattle.shape.specs.declared.refusal.Refusal.{Refusal}
 use Rattle.shape.specs.declared.refusal.Refusal.TheVariants.{Weak}
 use Rattle.shape.specs.declared.refusal.Answer.{Answer}

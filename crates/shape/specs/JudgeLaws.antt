@@ -7,7 +7,7 @@ use Rattle.code.specs.Shift.{shift}
 use Rattle.code.specs.Bound.{FirstPair}
 use Rattle.code.specs.Bound as bound
 use Rattle.code.specs.CodeLaws.{not_both}
-use Rattle.code.specs.Exact.{exact}
+use Rattle.code.proofs.Exact.{exact}
 use Rattle.shape.specs.declared.limits.Shape.{Shape}
 use Rattle.shape.specs.declared.limits.Limited.{Limited}
 use Rattle.shape.specs.declared.limits.Limited.TheVariants as limited

@@ -6,7 +6,7 @@ use Rattle.code.specs.Drawn.{drawn, Draws}
 use Rattle.code.specs.DrawnLaws.{drawn_fair, drawn_latin, drawn_alike}
 use Rattle.code.specs.Layout.{Layout, Fair, Latin, code, pair}
 use Rattle.code.specs.Shift.{shift}
-use Rattle.code.specs.ShiftLaws.{shift_fair, shift_latin}
+use Rattle.code.proofs.ShiftLaws.{shift_fair, shift_latin}
 use Rattle.shape.specs.declared.pairs.First.{First}
 use Rattle.shape.specs.declared.pairs.First.TheVariants.{At, Nothing}
 use Rattle.shape.specs.declared.Judged.TheVariants.{Good, Refused}

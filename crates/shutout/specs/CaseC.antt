@@ -10,16 +10,17 @@ use Rattle.code.specs.Place.{strip_of, at}
 use Rattle.code.specs.Sound.{Published}
 use Rattle.code.specs.SoundLaws.{sound_published}
 use Rattle.code.specs.Shift.{meets, shift}
-use Rattle.code.specs.ShiftLaws.{shift_fair}
+use Rattle.code.proofs.ShiftLaws.{shift_fair}
 use Rattle.code.specs.Bound.{q, pr, searched}
 use Rattle.shape.specs.declared.refusal.Refusal.TheVariants.{NoSound}
 use Rattle.shape.specs.declared.refusal.Answer.{Answer}
 use Rattle.shape.specs.declared.refusal.Answer.TheVariants.{Refused}
 use Rattle.shape.specs.Mask.{lost_in}
 use Rattle.rebuild.specs.Rebuild.{Agreeable, Cleared, Rebuilds}
-use Rattle.rebuild.specs.RebuildNumber.{Accepted, number_accepted}
-use Rattle.rebuild.specs.RebuildMet.{rebuilds_none}
-use Rattle.rebuild.specs.RebuildDetermined.{rebuild_determined}
+use Rattle.rebuild.specs.RebuildNumber.{Accepted}
+use Rattle.rebuild.proofs.RebuildNumberLaws.{number_accepted}
+use Rattle.rebuild.proofs.RebuildMet.{rebuilds_none}
+use Rattle.rebuild.proofs.RebuildDetermined.{rebuild_determined}
 use Rattle.shutout.specs.Computed.{where?, kept?, zero?}
 
 -- the survivors with the bytes a in strips 0 and 1

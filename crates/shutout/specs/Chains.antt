@@ -14,9 +14,10 @@ use Rattle.shape.specs.declared.refusal.Answer.{Answer}
 use Rattle.shape.specs.declared.refusal.Answer.TheVariants.{Done}
 use Rattle.shape.specs.Mask.{lost_in}
 use Rattle.rebuild.specs.Rebuild.{Kept, Rebuilds}
-use Rattle.rebuild.specs.RebuildNumber.{Accepted, number_accepted}
-use Rattle.rebuild.specs.RebuildMet.{rebuilds_done}
-use Rattle.rebuild.specs.RebuildDetermined.{rebuild_determined}
+use Rattle.rebuild.specs.RebuildNumber.{Accepted}
+use Rattle.rebuild.proofs.RebuildNumberLaws.{number_accepted}
+use Rattle.rebuild.proofs.RebuildMet.{rebuilds_done}
+use Rattle.rebuild.proofs.RebuildDetermined.{rebuild_determined}
 use Rattle.shutout.specs.Computed.{where?, kept?}
 
 unfoldable pub chains : List ℕ → List ℕ → List ℕ

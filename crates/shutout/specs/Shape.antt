@@ -7,7 +7,7 @@ use Rattle.code.specs.Layout.{pair}
 use Rattle.code.specs.Live.{diagonal, Known, survives, Lone}
 use Rattle.code.specs.Shift.{shift, meets}
 use Rattle.code.specs.Shift as shifted
-use Rattle.code.specs.ShiftLaws.{shift_fair}
+use Rattle.code.proofs.ShiftLaws.{shift_fair}
 use Rattle.code.specs.Steps.{Written, BuiltAt}
 use Rattle.code.specs.Walk.{Walk}
 use Rattle.shape.specs.declared.limits.Shape.{Shape}

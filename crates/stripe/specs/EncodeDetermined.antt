@@ -2,7 +2,7 @@
 use Rattle.std.specs.Prelude.{◌≡◌, refl, List, ℕ, length}
 use Rattle.std.proofs.Common.{sym, ap, ◌∙◌, arith}
 use Rattle.code.specs.Shift.{shift}
-use Rattle.code.specs.ShiftLaws.{shift_fair}
+use Rattle.code.proofs.ShiftLaws.{shift_fair}
 use Rattle.code.specs.Bound.{Good}
 use Rattle.shape.specs.declared.refusal.Refusal.{Refusal}
 use Rattle.shape.specs.declared.refusal.Answer.{Answer}

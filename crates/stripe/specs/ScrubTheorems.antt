@@ -14,9 +14,9 @@ use Rattle.shape.specs.Refusal.{refusal_some}
 use Rattle.shape.specs.CallLaws.{named_same}
 use Rattle.finding.specs.declared.Finding.TheVariants as finding
 use Rattle.finding.specs.Found.{wrong_row, wrong_diagonal, found}
-use Rattle.finding.specs.FoundLaws.{found_sound, found_U, found_H, found_element, found_tallied, sound_counts}
+use Rattle.finding.proofs.FoundLaws.{found_sound, found_U, found_H, found_element, found_tallied, sound_counts}
 use Rattle.finding.specs.LinesOf.{X_row, X_diagonal, H_row, H_diagonal, U_row, U_diagonal}
-use Rattle.finding.specs.ChangedAt.{ChangedAt, one_row, no_row, one_diagonal, no_diagonal}
+use Rattle.finding.proofs.ChangedAt.{ChangedAt, one_row, no_row, one_diagonal, no_diagonal}
 use Rattle.stripe.specs.declared.scrubbing.Scrubbed.{Scrubbed}
 use Rattle.stripe.specs.declared.scrubbing.Scrubbed.TheVariants.{Counted, Refused}
 use Rattle.stripe.specs.Scrub.{Scrubs, counted_of}

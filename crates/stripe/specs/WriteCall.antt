@@ -7,14 +7,14 @@ use Rattle.code.specs.Place.{at}
 use Rattle.code.specs.Layout.{X, line}
 use Rattle.code.specs.Sound.{Sound}
 use Rattle.code.specs.Shift.{shift}
-use Rattle.code.specs.ShiftLaws.{shift_fair}
+use Rattle.code.proofs.ShiftLaws.{shift_fair}
 use Rattle.shape.specs.declared.refusal.Refusal.{Refusal}
 use Rattle.shape.specs.declared.refusal.Answer.{Answer}
 use Rattle.shape.specs.declared.refusal.Answer.TheVariants.{Done, Refused}
 use Rattle.shape.specs.Refusal.{refusal_some}
 use Rattle.shape.specs.Call.{answer_number, Answered}
 use Rattle.patch.specs.Written.{written_over}
-use Rattle.patch.specs.WrittenLaws.{written_length}
+use Rattle.patch.proofs.WrittenLaws.{written_length}
 use Rattle.stripe.specs.Encode.{EncodedFrom}
 use Rattle.stripe.specs.Write.{write_number, written, Writes}
 use Rattle.stripe.specs.WriteLaws.{written_sums, written_sound, written_encoded, written_refused, written_done}

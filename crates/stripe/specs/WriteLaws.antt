@@ -12,7 +12,7 @@ use Rattle.code.specs.Shift.{shift}
 use Rattle.shape.specs.declared.refusal.Answer.{Answer}
 use Rattle.shape.specs.CallLaws.{answered_same}
 use Rattle.patch.specs.Written.{written_over}
-use Rattle.patch.specs.WrittenLaws.{written_length, written_changed}
+use Rattle.patch.proofs.WrittenLaws.{written_length, written_changed}
 use Rattle.stripe.specs.Encode.{EncodedFrom}
 use Rattle.stripe.specs.Write.{write_number, written, Writes}
 use Rattle.stripe.specs.EncodeLaws.{encoded_same}

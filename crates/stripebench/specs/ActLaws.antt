@@ -5,9 +5,9 @@ use Rattle.std.proofs.Common.{sym, ◌∙◌, subst, arith, take_at, length-take
 use Rattle.std.proofs.Math.Decide.{ℕ_discrete}
 use Rattle.std.proofs.Math.Seq.{length_front}
 use Rattle.code.specs.Shift.{shift}
-use Rattle.code.specs.ShiftLaws.{shift_fair}
+use Rattle.code.proofs.ShiftLaws.{shift_fair}
 use Rattle.shape.specs.declared.limits.Shape.{Shape}
-use Rattle.patch.specs.WrittenLaws.{written_length}
+use Rattle.patch.proofs.WrittenLaws.{written_length}
 use Rattle.stripe.specs.Write.{write_number, written}
 use Rattle.stripe.specs.WriteLaws.{written_sound, written_refused, written_done}
 use Rattle.stripe.specs.WriteNumber.{number_accepted}

@@ -26,8 +26,9 @@ use Rattle.stripe.specs.Read.{read_number, read_part}
 use Rattle.stripe.specs.ReadLaws.{read_length}
 use Rattle.stripe.specs.Scrub.{scrubbed_number, Scrubs}
 use Rattle.rebuild.specs.Rebuild.{rebuild_number, Rebuilds}
-use Rattle.rebuild.specs.RebuildNumber.{Accepted, accepted_number}
-use Rattle.rebuild.specs.RebuildLaws.{rebuild_gives}
+use Rattle.rebuild.specs.RebuildNumber.{Accepted}
+use Rattle.rebuild.proofs.RebuildNumberLaws.{accepted_number}
+use Rattle.rebuild.proofs.RebuildLaws.{rebuild_gives}
 use Rattle.stripebench.specs.declared.replies.Reply.{Reply}
 use Rattle.stripebench.specs.declared.replies.Reply.TheVariants.{Refused, Done, One, Two}
 use Rattle.stripebench.specs.Numbers.{low_first}

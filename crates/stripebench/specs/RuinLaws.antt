@@ -9,7 +9,7 @@ use Rattle.code.specs.LayoutLaws.{pair_no, pair_yes, pair_kept, pair_left}
 use Rattle.element.specs.Filled.{Filled}
 use Rattle.rebuild.specs.Clear.{Rows}
 use Rattle.rebuild.specs.ClearLaws.{strip_run, strip_apart}
-use Rattle.rebuild.specs.RebuildLaws.{kept_refl}
+use Rattle.rebuild.proofs.RebuildLaws.{kept_refl}
 use Rattle.stripebench.specs.Ruin.{Ruins}
 
 module _ (L : Layout) (e : ℕ) where

@@ -3,7 +3,7 @@ use borrow.Author.Rules.{rules}
 use native.Mathlib.Omega.{arith}
 use mathlib.Core.Path.{◌∙◌}
 use Rattle.element.specs.FilledLaws.{filled_none, filled_all}
-use Rattle.element.specs.GatherLaws.{fits_part, gathered_then}
+use Rattle.element.proofs.GatherLaws.{fits_part, gathered_then}
 use Rattle.element.proofs.gather.Goals as goal
 
 pub loop-k-init : goal.loop-k-init

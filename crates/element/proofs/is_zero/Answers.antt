@@ -2,7 +2,7 @@
 use borrow.Author.Rules.{rules}
 use native.Mathlib.Omega.{arith}
 use mathlib.Core.Path.{refl}
-use Rattle.element.specs.GatherLaws.{fits_part, zero_none, zero_then, tells_yes, tells_no, tells_last}
+use Rattle.element.proofs.GatherLaws.{fits_part, zero_none, zero_then, tells_yes, tells_no, tells_last}
 use Rattle.element.proofs.is_zero.Goals as goal
 
 pub loop-k-init : goal.loop-k-init

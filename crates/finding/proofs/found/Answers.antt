@@ -3,7 +3,7 @@ use native.Mathlib.Omega.{arith}
 use mathlib.Core.Path.{ap, ◌∙◌}
 use mathlib.Core.Logic.{inl, inr}
 use Rattle.finding.specs.declared.Finding.TheVariants.{Element}
-use Rattle.finding.specs.FoundLaws.{found_sound, found_U, found_H, found_element, found_several}
+use Rattle.finding.proofs.FoundLaws.{found_sound, found_U, found_H, found_element, found_several}
 use Rattle.finding.proofs.found.Goals as goal
 
 pub meets-j-requires : goal.meets-j-requires

@@ -1,10 +1,10 @@
 -- `scrub_shape` meets its contract: the first r lines are the rows, the n after them the diagonals. Assumes nothing.
 use native.Mathlib.Omega.{arith}
 use Rattle.code.specs.Shift.{shift}
-use Rattle.code.specs.ShiftLaws.{shift_fair}
-use Rattle.finding.specs.TallyLaws.{tallied_below}
-use Rattle.finding.specs.WrongLaws.{tallied_rows, tallied_diagonals}
-use Rattle.finding.specs.FoundLaws.{finds_tallied}
+use Rattle.code.proofs.ShiftLaws.{shift_fair}
+use Rattle.finding.proofs.TallyLaws.{tallied_below}
+use Rattle.finding.proofs.WrongLaws.{tallied_rows, tallied_diagonals}
+use Rattle.finding.proofs.FoundLaws.{finds_tallied}
 use Rattle.finding.proofs.scrub_shape.Goals as goal
 
 pub found-finding-requires : goal.found-finding-requires

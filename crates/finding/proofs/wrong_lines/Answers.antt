@@ -2,7 +2,7 @@
 use borrow.Author.Rules.{rules}
 use native.Mathlib.Omega.{arith}
 use mathlib.Core.Path.{sym, ◌∙◌}
-use Rattle.finding.specs.TallyLaws.{tallying_none, tallying_yes, tallying_no, tallying_all}
+use Rattle.finding.proofs.TallyLaws.{tallying_none, tallying_yes, tallying_no, tallying_all}
 use Rattle.finding.proofs.wrong_lines.Goals as goal
 
 pub loop-left-init : goal.loop-left-init

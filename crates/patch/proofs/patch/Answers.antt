@@ -1,7 +1,7 @@
 -- `patch` meets its contract: old and new bytes added at three places. Assumes nothing.
 use native.Mathlib.Omega.{arith}
 use mathlib.Core.Path.{sym, ◌∙◌}
-use Rattle.patch.specs.PatchLaws.{block_length, patched_fills}
+use Rattle.patch.proofs.PatchLaws.{block_length, patched_fills}
 use Rattle.patch.proofs.patch.Goals as goal
 
 pub slice_bounds-block-end : goal.slice_bounds-block-end

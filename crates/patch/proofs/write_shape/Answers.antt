@@ -3,9 +3,9 @@ use native.Mathlib.Omega.{arith}
 use mathlib.Core.Path.{◌∙◌}
 use lib.ListN.{length}
 use Rattle.code.specs.Shift.{shift}
-use Rattle.code.specs.ShiftLaws.{shift_fair}
-use Rattle.patch.specs.PatchLaws.{touches_spots, touches_patched, patched_none, patched_more, patched_all}
-use Rattle.patch.specs.WrittenLaws.{patched_written}
+use Rattle.code.proofs.ShiftLaws.{shift_fair}
+use Rattle.patch.proofs.PatchLaws.{touches_spots, touches_patched, patched_none, patched_more, patched_all}
+use Rattle.patch.proofs.WrittenLaws.{patched_written}
 use Rattle.patch.proofs.write_shape.Goals as goal
 
 pub loop-c-init : goal.loop-c-init

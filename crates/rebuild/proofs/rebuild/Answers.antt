@@ -6,7 +6,7 @@ use mathlib.Core.Path.{◌≡◌, sym, ◌∙◌}
 use mathlib.Core.Bool.{false}
 use Rattle.code.specs.Below.{count}
 use Rattle.shape.specs.Mask.{lost_in, above_test}
-use Rattle.rebuild.specs.Call.{rebuild_refused, mask_refused, many_refused, shape_good, shape_lost, shape_size, mend_done, mend_none}
+use Rattle.rebuild.proofs.Call.{rebuild_refused, mask_refused, many_refused, shape_good, shape_lost, shape_size, mend_done, mend_none}
 use Rattle.rebuild.proofs.rebuild.Goals as goal
 
 pub returns-in_default : goal.returns-in_default

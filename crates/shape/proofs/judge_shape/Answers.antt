@@ -1,7 +1,7 @@
 -- `shape::judge_shape` meets its contract: the bound decides; a shape with r above n - s fails at strips 0 and 1. Assumes nothing.
 use mathlib.Core.Path.{sym, ◌∙◌}
 use native.Mathlib.Omega.{arith}
-use Rattle.code.specs.Exact.{over_first}
+use Rattle.code.proofs.Exact.{over_first}
 use Rattle.shape.specs.GoodTest.{test_good}
 use Rattle.shape.specs.JudgeLaws.{judges_weak, judges_good}
 use Rattle.shape.proofs.judge_shape.Goals as goal

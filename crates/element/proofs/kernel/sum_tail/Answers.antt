@@ -1,6 +1,6 @@
 -- `sum_tail` meets its contract: the last m bytes of the sum, one source a turn. Assumes nothing.
 use native.Mathlib.Omega.{arith}
-use Rattle.element.specs.GatherLaws.{sofar_none, sofar_one, sofar_all}
+use Rattle.element.proofs.GatherLaws.{sofar_none, sofar_one, sofar_all}
 use Rattle.element.proofs.kernel.sum_tail.Goals as goal
 
 pub loop-j-init : goal.loop-j-init

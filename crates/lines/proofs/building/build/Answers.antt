@@ -5,7 +5,7 @@ use mathlib.Core.List.{List}
 use Prim.Native.Nat.{ℕ, ◌≤◌}
 use lib.ListN.{length, set, length-set}
 use lib.Seq.{length-take-le}
-use Rattle.code.specs.ShiftLaws.{shift_fair}
+use Rattle.code.proofs.ShiftLaws.{shift_fair}
 use Rattle.lines.specs.ListedCount.{listed_count}
 use Rattle.lines.specs.BuildLaws.{build_inside, build_fits, build_apart, gathered_builds}
 use Rattle.lines.proofs.building.build.Goals as goal

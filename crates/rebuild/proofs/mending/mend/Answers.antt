@@ -3,13 +3,13 @@ use borrow.Author.Rules.{rules}
 use native.Mathlib.Omega.{arith}
 use Prim.Native.Nat.{ℕ}
 use mathlib.Core.Path.{sym, ap, ◌∙◌}
-use Rattle.code.specs.ShiftLaws.{shift_fair}
+use Rattle.code.proofs.ShiftLaws.{shift_fair}
 use Rattle.shape.specs.Mask.{lost_in}
 use Rattle.shape.specs.LostLaws.{first_last, pair_lost}
 use Rattle.shape.specs.MaskEnds.{above_last}
 use Rattle.rebuild.specs.LostStrips.{empty_lost}
-use Rattle.rebuild.specs.PlanRun.{zeros}
-use Rattle.rebuild.specs.MendLaws.{mends_lost, mends_none}
+use Rattle.rebuild.proofs.PlanRunLaws.{zeros}
+use Rattle.rebuild.proofs.MendLaws.{mends_lost, mends_none}
 use Rattle.rebuild.proofs.mending.mend.Goals as goal
 
 pub unused_zero-requires : goal.unused_zero-requires

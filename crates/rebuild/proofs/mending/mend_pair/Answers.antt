@@ -6,10 +6,10 @@ use mathlib.Core.Path.{refl, sym, ◌∙◌}
 use Rattle.code.specs.Layout.{Fair}
 use Rattle.code.specs.Shift.{shift}
 use Rattle.code.specs.SumLaws.{clash}
-use Rattle.code.specs.ShiftLaws.{shift_fair}
+use Rattle.code.proofs.ShiftLaws.{shift_fair}
 use Rattle.shape.specs.Limits.{Limits}
-use Rattle.rebuild.specs.PlanRun.{zeros, ran_size, ran_mended, ran_cleared}
-use Rattle.rebuild.specs.MendLaws.{both_kept, both_zero}
+use Rattle.rebuild.proofs.PlanRunLaws.{zeros, ran_size, ran_mended, ran_cleared}
+use Rattle.rebuild.proofs.MendLaws.{both_kept, both_zero}
 use Rattle.rebuild.proofs.mending.mend_pair.Goals as goal
 
 fair : (n r s e : ℕ) → Limits n r s e → Fair (shift n r s)

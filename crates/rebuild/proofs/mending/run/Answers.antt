@@ -2,7 +2,7 @@
 use native.Mathlib.Omega.{arith}
 use mathlib.Core.Path.{refl}
 use Rattle.code.specs.Shift.{shift}
-use Rattle.code.specs.ShiftLaws.{shift_fair}
+use Rattle.code.proofs.ShiftLaws.{shift_fair}
 use Rattle.code.specs.DrawnLaws.{drawn_fair}
 use Rattle.shape.specs.MapLaws.{filled_draws}
 use Rattle.rebuild.specs.SteppingLaws.{walk_shaped}

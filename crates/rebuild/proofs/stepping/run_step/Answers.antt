@@ -4,7 +4,7 @@ use Prim.Native.Nat.{ℕ, ◌+◌}
 use mathlib.Core.Path.{sym, subst}
 use Rattle.code.specs.Layout.{Fair}
 use Rattle.code.specs.Shift.{shift}
-use Rattle.code.specs.ShiftLaws.{shift_fair}
+use Rattle.code.proofs.ShiftLaws.{shift_fair}
 use Rattle.walker.specs.Written.{step}
 use Rattle.shape.specs.Limits.{Limits}
 use Rattle.rebuild.specs.SteppingLaws.{Where, two_where, four_where, else_where, builds_stepped}

@@ -8,7 +8,8 @@ use lib.ListN.{get_or}
 use Rattle.code.specs.Shift.{shift}
 use Rattle.walker.specs.Written.{step, written}
 use Rattle.rebuild.specs.Stepping.{Shaped}
-use Rattle.rebuild.specs.Running.{Running, running_none, running_more}
+use Rattle.rebuild.specs.Running.{Running}
+use Rattle.rebuild.proofs.RunningLaws.{running_none, running_more}
 use Rattle.rebuild.proofs.stepping.run_steps.Goals as goal
 
 -- what stands in the buffer is step k as it is written

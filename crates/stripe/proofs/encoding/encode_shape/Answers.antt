@@ -2,7 +2,7 @@
 use borrow.Author.Rules.{rules}
 use native.Mathlib.Omega.{arith}
 use mathlib.Core.Path.{◌∙◌}
-use Rattle.code.specs.ShiftLaws.{shift_fair}
+use Rattle.code.proofs.ShiftLaws.{shift_fair}
 use Rattle.stripe.specs.ParityLaws.{last_within}
 use Rattle.stripe.specs.EncodeLaws.{encoded_none, encoded_more, encoded_all}
 use Rattle.stripe.proofs.encoding.encode_shape.Goals as goal

@@ -2,7 +2,7 @@
 use Rattle.std.proofs.Common.{ℕ, arith, rules}
 use Rattle.code.specs.Layout.{Fair}
 use Rattle.code.specs.Shift.{shift}
-use Rattle.code.specs.ShiftLaws.{shift_fair}
+use Rattle.code.proofs.ShiftLaws.{shift_fair}
 use Rattle.walker.specs.Written.{step}
 use Rattle.shape.specs.Limits.{Limits}
 use Rattle.rebuild.specs.SteppingLaws.{two_where, four_where, else_where}

@@ -14,7 +14,7 @@ use Rattle.code.specs.SoundLaws.{along_meets}
 use Rattle.lines.specs.Unbalanced.{unbalanced}
 use Rattle.finding.specs.Found.{wrong_row, wrong_diagonal}
 use Rattle.finding.specs.Tally.{Tallied}
-use Rattle.finding.specs.TallyLaws.{tallied_same}
+use Rattle.finding.proofs.TallyLaws.{tallied_same}
 
 -- ---- one line
 

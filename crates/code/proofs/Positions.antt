@@ -14,7 +14,7 @@ use Rattle.code.specs.AlongLaws.{strip_sum}
 use Rattle.code.specs.Pair.{Matched, Cancelled, decided_two, decided_one}
 use Rattle.code.specs.Circle.{mod_cancel, to_mod, back}
 use Rattle.code.specs.Shift.{diagonal, meets, shift}
-use Rattle.code.specs.ShiftLaws.{shift_fair}
+use Rattle.code.proofs.ShiftLaws.{shift_fair}
 use Rattle.code.specs.Periods.{Repeats, Window, first, last, repeats_nil}
 
 -- the position of row i

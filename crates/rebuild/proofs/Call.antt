@@ -18,7 +18,7 @@ use Rattle.shape.specs.Judge.{judged_answer}
 use Rattle.stripe.specs.Opened.{Opens}
 use Rattle.rebuild.specs.Rebuild.{Rebuilds}
 use Rattle.rebuild.specs.RebuildNumber.{Accepted}
-use Rattle.rebuild.specs.RebuildMet.{rebuilds_opened, rebuilds_above, rebuilds_many, rebuilds_done, rebuilds_none}
+use Rattle.rebuild.proofs.RebuildMet.{rebuilds_opened, rebuilds_above, rebuilds_many, rebuilds_done, rebuilds_none}
 use Rattle.rebuild.specs.PlanRun.{Mends}
 
 module _ (n r s e mask : ℕ) (b : List ℕ) (x : Judged) (o : Opens n r s e (length b) x) where

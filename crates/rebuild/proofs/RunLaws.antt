@@ -16,7 +16,7 @@ use Rattle.code.specs.LayoutLaws.{layout_within}
 use Rattle.code.specs.Sound.{Stripe}
 use Rattle.code.specs.SoundLaws.{sound_balanced, balanced_sound}
 use Rattle.rebuild.specs.Rebuild.{Kept, Agreeable, Mended, Cleared}
-use Rattle.rebuild.specs.RebuildLaws.{kept_trans}
+use Rattle.rebuild.proofs.RebuildLaws.{kept_trans}
 use Rattle.rebuild.specs.WholePlan.{Planned}
 use Rattle.rebuild.specs.RunTo.{StepSet, RunTo, SurplusZero}
 

@@ -13,8 +13,8 @@ use Rattle.code.specs.AlongLaws.{strip_sum, strip_sum_none}
 use Rattle.code.specs.Pair.{Matched, fails_two}
 use Rattle.code.specs.Circle.{to_mod}
 use Rattle.code.specs.Shift.{diagonal, shift}
-use Rattle.code.specs.ShiftLaws.{shift_fair}
-use Rattle.code.specs.Positions.{position, position_of, diagonal_at, value, value_row, value_low, value_high, value_strip}
+use Rattle.code.proofs.ShiftLaws.{shift_fair}
+use Rattle.code.proofs.Positions.{position, position_of, diagonal_at, value, value_row, value_low, value_high, value_strip}
 
 lone : ◌≡◌ {A = ℕ} 1 0 → ⊥
 lone e = omega arith

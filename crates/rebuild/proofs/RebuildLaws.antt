@@ -7,7 +7,7 @@ use Rattle.code.specs.Place.{strip_of, at}
 use Rattle.code.specs.Layout.{Layout, Fair, height, places}
 use Rattle.code.specs.Sound.{SoundStripe}
 use Rattle.code.specs.Shift.{shift}
-use Rattle.code.specs.ShiftLaws.{shift_fair}
+use Rattle.code.proofs.ShiftLaws.{shift_fair}
 use Rattle.code.specs.Lookalikes.{sized_same, decided_stripe}
 use Rattle.shape.specs.declared.refusal.Refusal.{Refusal}
 use Rattle.shape.specs.declared.refusal.Refusal.TheVariants.{NoSound}
@@ -18,7 +18,8 @@ use Rattle.shape.specs.Mask.{lost_in}
 use Rattle.shape.specs.Call.{answer_number}
 use Rattle.shape.specs.CallLaws.{done_refused}
 use Rattle.rebuild.specs.Rebuild.{last_of, Kept, Agreeable, Mended, Cleared, Rebuilds}
-use Rattle.rebuild.specs.RebuildNumber.{Accepted, accepted_number}
+use Rattle.rebuild.specs.RebuildNumber.{Accepted}
+use Rattle.rebuild.proofs.RebuildNumberLaws.{accepted_number}
 use Rattle.rebuild.specs.LostStrips.{lost_decided}
 
 -- ---- buffers with the same survivors

@@ -14,10 +14,11 @@ use Rattle.shape.specs.declared.refusal.Answer.TheVariants.{Done, Refused}
 use Rattle.shape.specs.Mask.{lost_in}
 use Rattle.rebuild.specs.Rebuild.{Kept, Agreeable}
 use Rattle.rebuild.specs.RebuildNumber.{Accepted}
-use Rattle.rebuild.specs.RebuildLaws.{kept_refl, mended_agreeable, is_mended, is_cleared, ended_same}
+use Rattle.rebuild.proofs.RebuildLaws.{kept_refl, mended_agreeable, is_mended, is_cleared, ended_same}
 use Rattle.rebuild.specs.Clear.{Clears}
 use Rattle.rebuild.specs.Testing.{Tests}
-use Rattle.rebuild.specs.PlanRun.{Mends, no_run, ran_mended, ran_cleared}
+use Rattle.rebuild.specs.PlanRun.{Mends}
+use Rattle.rebuild.proofs.PlanRunLaws.{no_run, ran_mended, ran_cleared}
 
 module _ (L : Layout) (e a b : ℕ) (s t u : List ℕ) (x : Clears L e a s t) (y : Clears L e b t u) where
   -- strip a, then strip b cleared: the survivors stay

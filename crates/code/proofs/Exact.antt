@@ -9,8 +9,8 @@ use Rattle.code.specs.Layout.{Layout, code, pair}
 use Rattle.code.specs.Shift.{shift}
 use Rattle.code.specs.Bound.{q, Good, wide, narrow, Before, FirstPair}
 use Rattle.code.specs.Divisor.{WidestDivisor, q_widest}
-use Rattle.code.specs.Positions.{Clear, decided_data, decided_parity}
-use Rattle.code.specs.Failing.{Closed, fails_over, fails_at}
+use Rattle.code.proofs.Positions.{Clear, decided_data, decided_parity}
+use Rattle.code.proofs.Failing.{Closed, fails_over, fails_at}
 
 -- a shape is good or not
 pub good? : (n r s : ℕ) → Dec (Good n r s)

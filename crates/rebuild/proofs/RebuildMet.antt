@@ -15,7 +15,8 @@ use Rattle.shape.specs.Call.{bytes_of, call_number, Answered}
 use Rattle.shape.specs.CallLaws.{done_refused}
 use Rattle.shape.specs.JudgedCall.{unnamed, last_number}
 use Rattle.rebuild.specs.Rebuild.{rebuild_number, Mended, Cleared, Rebuilds}
-use Rattle.rebuild.specs.RebuildNumber.{Accepted, Numbered, early, late, numbered, accepted_number}
+use Rattle.rebuild.specs.RebuildNumber.{Accepted, Numbered, early, late}
+use Rattle.rebuild.proofs.RebuildNumberLaws.{numbered, accepted_number}
 
 -- a refusal of this number has no pair to name
 plain : (n r s number : ℕ) (y : Refusal) → number_of y ≡ number → number ≢ 5 → Answered n r s number (Refused y)

@@ -18,7 +18,7 @@ use Rattle.code.specs.Change.{Changed}
 use Rattle.code.specs.Lookalikes.{sized_same}
 use Rattle.patch.specs.Written.{in_run, written_at, written_over}
 use Rattle.patch.specs.Patch.{Patched}
-use Rattle.patch.specs.PatchLaws.{X_not_H, X_not_U, H_not_U, changed_one}
+use Rattle.patch.proofs.PatchLaws.{X_not_H, X_not_U, H_not_U, changed_one}
 
 module _ (L : Layout) (e i j o : ℕ) (run s : List ℕ) where
   -- what is added to byte k of the data element and of its two parities

@@ -16,8 +16,8 @@ use Rattle.code.specs.SoundLaws.{sound_balanced}
 use Rattle.lines.specs.Unbalanced.{unbalanced}
 use Rattle.finding.specs.Found.{wrong_row, wrong_diagonal}
 use Rattle.finding.specs.Tally.{Tallied}
-use Rattle.finding.specs.TallyLaws.{tallied_same, tallied_one, tallied_none}
-use Rattle.finding.specs.WrongLaws.{row_wrong, diagonal_wrong}
+use Rattle.finding.proofs.TallyLaws.{tallied_same, tallied_one, tallied_none}
+use Rattle.finding.proofs.WrongLaws.{row_wrong, diagonal_wrong}
 use Rattle.finding.specs.LinesOf.{Once, Off, OnOne, OnNone, once_sum, off_sum}
 
 -- t is s with another element at place p, and nothing else changed

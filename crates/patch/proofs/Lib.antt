@@ -1,0 +1,3 @@
+-- The laws of the definitions of specs/ that the must-fail edits change.
+pub mod PatchLaws
+pub mod WrittenLaws
