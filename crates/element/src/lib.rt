@@ -21,7 +21,8 @@ pub fn gather(s: &mut [u8], e: usize, d: usize, offs: &[usize])
         k += 128;
     }
     let m = e - k;
-    if 0 < m {
+    let rest = 0 < m;
+    if rest {
         let last = kernel::sum_tail(s, offs, k, m);
         kernel::put(s, d + k, &last, m);
     }

@@ -73,7 +73,8 @@ pub fn write_shape(
         c += 128;
     }
     let m = run.len() - c;
-    if 0 < m {
+    let rest = 0 < m;
+    if rest {
         patch(stripe, e, t, offset + c, run, c, m);
     }
 }

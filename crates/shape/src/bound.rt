@@ -23,5 +23,6 @@ pub fn good(n: usize, r: usize, s: usize) -> bool
     ensures { result ≡ good_test n r s }
 {
     let w = widest(n);
-    if s > w { r <= n - s } else { r + w + s <= n }
+    let wide = s > w;
+    if wide { r <= n - s } else { r + w + s <= n }
 }

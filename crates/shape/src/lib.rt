@@ -58,7 +58,8 @@ fn judge_shape(shape: Shape) -> Judged
         return Judged::Good(shape, size);
     }
     // An element lies on its own strip's diagonal: strips 0 and 1 fail at once, also where a strip has a diagonal twice.
-    if n < r + s {
+    let over = n < r + s;
+    if over {
         return Judged::Refused(Refusal::Weak(0, 1));
     }
     judge_pairs(shape)

@@ -25,7 +25,8 @@ pub fn opened(n: usize, r: usize, s: usize, e: usize, len: usize) -> Judged
     let Judged::Good(_, size) = judged else {
         return judged;
     };
-    if len != size {
+    let other = len != size;
+    if other {
         return Judged::Refused(Refusal::Length);
     }
     judged

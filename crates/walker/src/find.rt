@@ -93,7 +93,8 @@ pub fn lone_on_diagonal(
     if u == a {
         return Found::Nothing;
     }
-    if u == b {
+    let upper = u == b;
+    if upper {
         return Found::Nothing;
     }
     let Found::At(i, j) = next_on(map, built, n, r, a, b, d, 0) else {

@@ -29,24 +29,24 @@ pub sum_tail-last-requires : goal.sum_tail-last-requires
 sum_tail-last-requires c =
     (fits_part _ _ _ c.args.e _ (omega arith) c.loop-k.invariant.1.long c.requires.1, omega arith)
 
-pub put-requires-then-m-gt0 : goal.put-requires-then-m-gt0
-put-requires-then-m-gt0 c =
+pub put-requires-then-rest : goal.put-requires-then-rest
+put-requires-then-rest c =
     let l = c.loop-k.invariant.1.long in omega arith
 
-pub shape_of-s-then-m-gt0 : goal.shape_of-s-then-m-gt0
-shape_of-s-then-m-gt0 c =
-    c.put-then-m-gt0.ensures.long ∙ c.loop-k.invariant.1.long
+pub shape_of-s-then-rest : goal.shape_of-s-then-rest
+shape_of-s-then-rest c =
+    c.put-then-rest.ensures.long ∙ c.loop-k.invariant.1.long
 
-pub returns-then-m-gt0 : goal.returns-then-m-gt0
-returns-then-m-gt0 c =
+pub returns-then-rest : goal.returns-then-rest
+returns-then-rest c =
     filled_all _ _ _ _ _ _ (omega arith) (omega arith)
     (gathered_then _ _ c.args.e _ _ _ _ _ _ (omega arith) c.requires.2 c.loop-k.invariant.1
-    c.sum_tail-last.ensures c.put-then-m-gt0.ensures)
+    c.sum_tail-last.ensures c.put-then-rest.ensures)
 
-pub shape_of-s-else-m-gt0 : goal.shape_of-s-else-m-gt0
-shape_of-s-else-m-gt0 c =
+pub shape_of-s-else-rest : goal.shape_of-s-else-rest
+shape_of-s-else-rest c =
     c.loop-k.invariant.1.long
 
-pub returns-else-m-gt0 : goal.returns-else-m-gt0
-returns-else-m-gt0 c =
+pub returns-else-rest : goal.returns-else-rest
+returns-else-rest c =
     filled_all _ _ _ _ _ _ c.loop-k.invariant.0 (omega arith) c.loop-k.invariant.1

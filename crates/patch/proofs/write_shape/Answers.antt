@@ -24,34 +24,34 @@ pub loop-c-preserved : goal.loop-c-preserved
 loop-c-preserved c =
     (omega arith, patched_more _ _ _ _ _ c.loop-c.c 128 c.args.run.now _ _ _ (omega arith) c.loop-c.invariant.1 c.patch.ensures)
 
-pub patch-requires-then-m-gt0 : goal.patch-requires-then-m-gt0
-patch-requires-then-m-gt0 c =
+pub patch-requires-then-rest : goal.patch-requires-then-rest
+patch-requires-then-rest c =
     record {
       spots = (touches_spots (shift c.args.shape.n c.args.shape.r c.args.shape.s) (shift_fair c.args.shape.n c.args.shape.r c.args.shape.s (omega arith)) c.args.row c.args.strip c.requires.place.0 c.requires.place.1
           c.args.shape.e c.loop-c.stripe c.args.stripe.now c.places-t.result c.requires.size c.loop-c.invariant.1.long c.places-t.ensures);
       block = (omega arith, omega arith, omega arith, omega arith);
     }
 
-pub shape_of-stripe-then-m-gt0 : goal.shape_of-stripe-then-m-gt0
-shape_of-stripe-then-m-gt0 c =
-    c.patch-then-m-gt0.ensures.long ∙ c.loop-c.invariant.1.long
+pub shape_of-stripe-then-rest : goal.shape_of-stripe-then-rest
+shape_of-stripe-then-rest c =
+    c.patch-then-rest.ensures.long ∙ c.loop-c.invariant.1.long
 
-pub returns-then-m-gt0 : goal.returns-then-m-gt0
-returns-then-m-gt0 c =
+pub returns-then-rest : goal.returns-then-rest
+returns-then-rest c =
     let a = c.args in
     let L = shift a.shape.n a.shape.r a.shape.s in
     let F = shift_fair a.shape.n a.shape.r a.shape.s (omega arith) in
     patched_written L a.shape.e a.row a.strip a.offset a.run.now a.stripe.now F c.requires.place.0 c.requires.place.1 c.requires.size _
     (touches_patched L F a.row a.strip c.requires.place.0 c.requires.place.1 a.shape.e a.offset (length a.run.now) _ _ _ c.places-t.result c.places-t.ensures
     (patched_all _ _ _ _ _ _ _ _ _ _ (omega arith) (omega arith)
-    (patched_more _ _ _ _ _ c.loop-c.c _ c.args.run.now _ _ _ (omega arith) c.loop-c.invariant.1 c.patch-then-m-gt0.ensures)))
+    (patched_more _ _ _ _ _ c.loop-c.c _ c.args.run.now _ _ _ (omega arith) c.loop-c.invariant.1 c.patch-then-rest.ensures)))
 
-pub shape_of-stripe-else-m-gt0 : goal.shape_of-stripe-else-m-gt0
-shape_of-stripe-else-m-gt0 c =
+pub shape_of-stripe-else-rest : goal.shape_of-stripe-else-rest
+shape_of-stripe-else-rest c =
     c.loop-c.invariant.1.long
 
-pub returns-else-m-gt0 : goal.returns-else-m-gt0
-returns-else-m-gt0 c =
+pub returns-else-rest : goal.returns-else-rest
+returns-else-rest c =
     let a = c.args in
     let L = shift a.shape.n a.shape.r a.shape.s in
     let F = shift_fair a.shape.n a.shape.r a.shape.s (omega arith) in

@@ -10,6 +10,6 @@ pub returns-then-good : goal.returns-then-good
 returns-then-good c =
     judges_good _ _ _ _ c.requires (test_good _ _ _ (sym c.good.ensures ∙ c.if-good.true)) _ c.size-size.ensures.bytes
 
-pub returns-then-n-r : goal.returns-then-n-r
-returns-then-n-r c =
-    judges_weak _ _ _ _ c.requires 0 1 (over_first _ _ _ (omega (arith, c.requires.n_low)) c.requires.s_high c.if-n-r.true)
+pub returns-then-over : goal.returns-then-over
+returns-then-over c =
+    judges_weak _ _ _ _ c.requires 0 1 (over_first _ _ _ (omega (arith, c.requires.n_low)) c.requires.s_high c.if-over.true)

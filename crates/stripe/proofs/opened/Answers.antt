@@ -6,10 +6,10 @@ pub returns-in_default : goal.returns-in_default
 returns-in_default c =
     opens_refused _ _ _ _ _ _ c.judge-judged.ensures _ c.in_default.is
 
-pub returns-then-len-size : goal.returns-then-len-size
-returns-then-len-size c =
-    opens_length _ _ _ _ _ _ c.judge-judged.ensures _ _ c.in-Good.is c.if-len-size.true
+pub returns-then-other : goal.returns-then-other
+returns-then-other c =
+    opens_length _ _ _ _ _ _ c.judge-judged.ensures _ _ c.in-Good.is c.if-other.true
 
 pub returns : goal.returns
 returns c =
-    opens_good _ _ _ _ _ _ c.judge-judged.ensures _ _ c.in-Good.is c.if-len-size.false
+    opens_good _ _ _ _ _ _ c.judge-judged.ensures _ _ c.in-Good.is c.if-other.false

@@ -5,7 +5,7 @@ use mathlib.Core.Path.{sym, ap, ◌∙◌}
 use lib.ListN.{length}
 use Rattle.rebuild.specs.TestingLaws.{passed_none, passed_used, passed_right, passed_tests, wrong_tests}
 use Rattle.rebuild.proofs.testing.unused_zero.Goals as goal
-use Rattle.rebuild.proofs.testing.unused_zero.Goals.{then-used-t-eq0+else-wrong_line, else-used-t-eq0}
+use Rattle.rebuild.proofs.testing.unused_zero.Goals.{then-unused+else-wrong_line, else-unused}
 
 pub loop-t-init : goal.loop-t-init
 loop-t-init c =
@@ -13,19 +13,19 @@ loop-t-init c =
 
 pub returns-then-wrong_line : goal.returns-then-wrong_line
 returns-then-wrong_line c =
-    wrong_tests _ _ _ _ _ (omega arith) c.if-used-t-eq0.true (sym c.wrong_line.ensures.value ∙ c.if-wrong_line.true)
+    wrong_tests _ _ _ _ _ (omega arith) c.if-unused.true (sym c.wrong_line.ensures.value ∙ c.if-wrong_line.true)
 
 pub loop-t-preserved : goal.loop-t-preserved
 loop-t-preserved c =
     let inv = c.loop-t.invariant in (
-      elim c.if-used-t-eq0.branch [
-        | then-used-t-eq0+else-wrong_line w ↦ passed_right _ _ _ _ _ (sym w.wrong_line.ensures.value ∙ w.if-wrong_line.false) inv.0
-        | else-used-t-eq0 w ↦ passed_used _ _ _ _ _ w.if-used-t-eq0.false inv.0
+      elim c.if-unused.branch [
+        | then-unused+else-wrong_line w ↦ passed_right _ _ _ _ _ (sym w.wrong_line.ensures.value ∙ w.if-wrong_line.false) inv.0
+        | else-unused w ↦ passed_used _ _ _ _ _ w.if-unused.false inv.0
       ],
       omega arith,
-      elim c.if-used-t-eq0.branch [
-        | then-used-t-eq0+else-wrong_line w ↦ ap length w.offs-is ∙ w.wrong_line.ensures.room
-        | else-used-t-eq0 w ↦ ap length w.offs-is ∙ inv.2
+      elim c.if-unused.branch [
+        | then-unused+else-wrong_line w ↦ ap length w.offs-is ∙ w.wrong_line.ensures.room
+        | else-unused w ↦ ap length w.offs-is ∙ inv.2
       ],
     )
 

@@ -8,9 +8,9 @@ pub returns-then-u-a : goal.returns-then-u-a
 returns-then-u-a c =
     found_nothing (diagonal_dead (on_lost c.args.a c.args.b c.wide-u.ensures (inl c.if-u-a.true)))
 
-pub returns-then-u-b : goal.returns-then-u-b
-returns-then-u-b c =
-    found_nothing (diagonal_dead (on_lost c.args.a c.args.b c.wide-u.ensures (inr c.if-u-b.true)))
+pub returns-then-upper : goal.returns-then-upper
+returns-then-upper c =
+    found_nothing (diagonal_dead (on_lost c.args.a c.args.b c.wide-u.ensures (inr c.if-upper.true)))
 
 pub returns-in_default : goal.returns-in_default
 returns-in_default c =
@@ -29,7 +29,7 @@ returns-in_default-next_on c =
     found_at
     (diagonal_one c.requires.1
     (on_kept c.args.a c.args.b c.wide-u.ensures
-    c.if-u-a.false c.if-u-b.false)
+    c.if-u-a.false c.if-upper.false)
     (c.next_on.ensures.at _ _ c.in-At.is)
     (c.next_on-2.ensures.nothing c.in_default-next_on.is))
 
