@@ -1,6 +1,6 @@
 -- Numbers of several bytes, the low one first. Assumes nothing.
-use Rattle.std.specs.Prelude.{◌≡◌, List, [], ◌∷◌, ℕ, suc, ◌+◌, ◌*◌, ◌^◌, ◌≤◌, ◌<◌, length, get_or, drop}
-use Rattle.std.proofs.Common.{sym, ap, ◌∙◌, subst, lt_of_lt_of_le, zero-lt-suc, add-one, arith, length-drop, pow-add, pow_mono, drop-cons, get_or-drop}
+use Rattle.std.specs.Prelude.{◌≡◌, List, [], ◌∷◌, ℕ, suc, ◌+◌, ◌*◌, ◌^◌, ◌<◌, length, get_or, drop}
+use Rattle.std.proofs.Common.{ap, ◌∙◌, zero-lt-suc, add-one, arith, pow-add, drop-cons}
 use Rattle.std.proofs.Math.Arith.{digits_lt}
 
 unfoldable pub low_first : List ℕ → ℕ
@@ -10,32 +10,15 @@ low_first (b ∷ l) = b + 256 * low_first l
 -- ---- laws
 
 -- the bytes from k on: byte k, and 256 times those after it
-low_first_more : (l : List ℕ) (k : ℕ) → k < length l → low_first (drop k l) ≡ get_or l k 0 + 256 * low_first (drop (k + 1) l)
+pub low_first_more : (l : List ℕ) (k : ℕ) → k < length l → low_first (drop k l) ≡ get_or l k 0 + 256 * low_first (drop (k + 1) l)
 unfolding low_first
 low_first_more l k h = rw (add-one, drop-cons l k 0 h)
 
 -- a number of m bytes has at most 8 m bits
-below : (l : List ℕ) → ((i : ℕ) → i < length l → get_or l i 0 < 256) → low_first l < 2 ^ (8 * length l)
+pub below : (l : List ℕ) → ((i : ℕ) → i < length l → get_or l i 0 < 256) → low_first l < 2 ^ (8 * length l)
 unfolding low_first
 below [] h = zero-lt-suc 0
 below (b ∷ l) h =
     let q : 8 * suc (length l) ≡ 8 * length l + 8 = omega arith in
     let x = digits_lt (below l (λ i li. h (suc i) (omega arith))) (h 0 (omega arith)) in
     omega (arith, ap (λ (x : ℕ). 2 ^ x) q ∙ pow-add 2 (8 * length l) 8)
-
--- one byte more in front: the number, and that it fits into 64 bits where there are at most 8 bytes
-pub record LowFirst (l : List ℕ) (k x : ℕ) : Type 0 where
-  pub is : x ≡ low_first (drop k l)
-  pub fits : x < 2 ^ 64
-
-pub low_first_step : (l : List ℕ) → length l ≤ 8 → ((i : ℕ) → get_or l i 0 < 256) → (k v : ℕ) → k < length l → v ≡ low_first (drop (k + 1) l)
-    → LowFirst l k (get_or l k 0 + 256 * v)
-low_first_step l m h k v lk q =
-    let e : 8 * length (drop k l) ≤ 64 = omega (arith, length-drop k l) in
-    record {
-      is = same;
-      fits = subst (λ (x : ℕ). x < 2 ^ 64) (sym same) (lt_of_lt_of_le (below (drop k l) (λ i li. subst (λ (x : ℕ). x < 256) (sym (get_or-drop k l i 0)) (h (k + i)))) (pow_mono e));
-    }
-  where
-    same : get_or l k 0 + 256 * v ≡ low_first (drop k l)
-    same = ap (λ (x : ℕ). get_or l k 0 + 256 * x) q ∙ sym (low_first_more l k lk)

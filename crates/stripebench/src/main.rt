@@ -5,15 +5,17 @@ mod acting;
 mod calling;
 mod numbers;
 mod printing;
+mod reading;
 mod records;
 mod replies;
 mod ruining;
 
+ghost use Rattle.std.specs.Prelude.{IfOk};
 ghost use Rattle.stripebench.specs.Holding.{Holds, Follows};
 
 use acting::Current;
-use libc::STDIN_FILENO;
 use records::Record;
+use std::io::{self, Read};
 
 // What follows a record: the next one, or the end of the run.
 #[derive(Clone, Copy)]
@@ -22,48 +24,53 @@ pub enum Next {
     End,
 }
 
-// Reads one record, does what it says and prints its line.
-fn one(current: Current, room: &mut [u8]) -> Next
+// Reads one record, does what it says and prints its line. A failed read or write ends the run, as `End` does.
+fn one(
+    rt: &impl Print,
+    input: &mut impl Read,
+    current: Current,
+    room: &mut [u8],
+) -> io::Result<Next>
     requires { Holds current room.old }
-    ensures { Follows result room.new }
+    ensures { IfOk result (λ next. Follows next room.new) }
 {
     let mut first = [0u8; 1];
-    let got = io::read_full(STDIN_FILENO, &mut first);
+    let got = reading::read_full(input, &mut first)?;
     if got < 1 {
-        return Next::End;
+        return Ok(Next::End);
     }
     let kind = first[0];
     let Record::Known(length, action) = records::record_of(kind) else {
-        printing::last_line(b"bad ", kind);
-        return Next::End;
+        printing::last_line(rt, b"bad ", kind)?;
+        return Ok(Next::End);
     };
     let mut body = [0u8; 8];
-    let whole = io::read_full(STDIN_FILENO, &mut body[..length]);
+    let whole = reading::read_full(input, &mut body[..length])?;
     if whole < length {
-        printing::last_line(b"cut ", kind);
-        return Next::End;
+        printing::last_line(rt, b"cut ", kind)?;
+        return Ok(Next::End);
     }
     let done = acting::act(action, &body, current, room);
     let reply = done.reply;
     let after = done.current;
-    printing::line(kind, reply);
-    Next::Again(after)
+    printing::line(rt, kind, reply)?;
+    Ok(Next::Again(after))
 }
 
-fn main() {
+fn main(rt: HostRuntime) -> io::Result<()> {
+    let mut input = rt.reader();
     let mut room = [0u8; 32768];
     let mut current = Current::Unset;
     // A loop must end: no input has this many records.
-    let mut left = u64::MAX;
-    while 0 < left {
-        left -= 1;
-        match one(current, &mut room) {
+    for _ in 0..u64::MAX {
+        match one(&rt, &mut input, current, &mut room)? {
             Next::Again(after) => {
                 current = after;
             }
             Next::End => {
-                return;
+                break;
             }
         }
     }
+    Ok(())
 }

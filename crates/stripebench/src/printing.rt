@@ -1,46 +1,46 @@
 // Lines: a record's kind, its answer and what comes with it, in decimal with single spaces.
 use crate::replies::Reply;
-use libc::STDOUT_FILENO;
+use std::io;
 
-fn number(x: u64) {
-    io::print_decimal(STDOUT_FILENO, x);
+fn number(rt: &impl Print, x: u64) -> io::Result<()> {
+    print!(rt; "{x}")
 }
 
-fn after_space(x: u64) {
-    io::write_all(STDOUT_FILENO, b" ");
-    number(x);
+fn after_space(rt: &impl Print, x: u64) -> io::Result<()> {
+    print!(rt; " ")?;
+    number(rt, x)
 }
 
-fn end() {
-    io::write_all(STDOUT_FILENO, b"\n");
+fn end(rt: &impl Print) -> io::Result<()> {
+    println!(rt)
 }
 
 // The line of a record that was read whole.
-pub(crate) fn line(kind: u8, reply: Reply) {
-    number(kind as u64);
+pub(crate) fn line(rt: &impl Print, kind: u8, reply: Reply) -> io::Result<()> {
+    number(rt, kind as u64)?;
     match reply {
         Reply::Refused(x) => {
-            after_space(x);
+            after_space(rt, x)?;
         }
         Reply::Done => {
-            after_space(0);
+            after_space(rt, 0)?;
         }
         Reply::One(x) => {
-            after_space(0);
-            after_space(x);
+            after_space(rt, 0)?;
+            after_space(rt, x)?;
         }
         Reply::Two(x, y) => {
-            after_space(0);
-            after_space(x);
-            after_space(y);
+            after_space(rt, 0)?;
+            after_space(rt, x)?;
+            after_space(rt, y)?;
         }
     }
-    end();
+    end(rt)
 }
 
 // The line that ends the run.
-pub(crate) fn last_line(word: &[u8], kind: u8) {
-    io::write_all(STDOUT_FILENO, word);
-    number(kind as u64);
-    end();
+pub(crate) fn last_line(rt: &impl Print, word: &[u8], kind: u8) -> io::Result<()> {
+    rt.write_all(word)?;
+    number(rt, kind as u64)?;
+    end(rt)
 }

@@ -1,8 +1,7 @@
 // What came of one lost set, and of many, counted and printed.
 use crate::judge_all::part;
 use crate::lost_set::Damaged;
-use libc::STDOUT_FILENO;
-use std::num::wrapping_add_u64;
+use std::io;
 
 // What came of damage to the survivors of one lost set. `unused`: of those refused, the parities of lines that no step uses.
 #[derive(Clone, Copy)]
@@ -27,22 +26,22 @@ impl Seen {
 
     // With what came of one survivor counted; `unused` says that it is the parity of a line that no step uses, whose damage must be refused.
     pub(crate) fn counted(mut self, came: Damaged, unused: bool) -> Self {
-        self.survivors = wrapping_add_u64(self.survivors, 1);
+        self.survivors = self.survivors.wrapping_add(1);
         match came {
             Damaged::Refused => {
-                self.refused = wrapping_add_u64(self.refused, 1);
+                self.refused = self.refused.wrapping_add(1);
                 if unused {
-                    self.unused = wrapping_add_u64(self.unused, 1);
+                    self.unused = self.unused.wrapping_add(1);
                 }
             }
             Damaged::Other => {
-                self.other = wrapping_add_u64(self.other, 1);
+                self.other = self.other.wrapping_add(1);
                 if unused {
-                    self.failures = wrapping_add_u64(self.failures, 1);
+                    self.failures = self.failures.wrapping_add(1);
                 }
             }
             Damaged::Wrong => {
-                self.failures = wrapping_add_u64(self.failures, 1);
+                self.failures = self.failures.wrapping_add(1);
             }
         }
         self
@@ -89,23 +88,23 @@ impl Counts {
 
     pub(crate) fn plus(self, t: Counts) -> Self {
         Self {
-            shapes: wrapping_add_u64(self.shapes, t.shapes),
-            sets: wrapping_add_u64(self.sets, t.sets),
-            back: wrapping_add_u64(self.back, t.back),
-            unused: wrapping_add_u64(self.unused, t.unused),
-            tight: wrapping_add_u64(self.tight, t.tight),
-            survivors: wrapping_add_u64(self.survivors, t.survivors),
-            refused: wrapping_add_u64(self.refused, t.refused),
-            other: wrapping_add_u64(self.other, t.other),
-            none: wrapping_add_u64(self.none, t.none),
-            all: wrapping_add_u64(self.all, t.all),
-            failures: wrapping_add_u64(self.failures, t.failures),
+            shapes: self.shapes.wrapping_add(t.shapes),
+            sets: self.sets.wrapping_add(t.sets),
+            back: self.back.wrapping_add(t.back),
+            unused: self.unused.wrapping_add(t.unused),
+            tight: self.tight.wrapping_add(t.tight),
+            survivors: self.survivors.wrapping_add(t.survivors),
+            refused: self.refused.wrapping_add(t.refused),
+            other: self.other.wrapping_add(t.other),
+            none: self.none.wrapping_add(t.none),
+            all: self.all.wrapping_add(t.all),
+            failures: self.failures.wrapping_add(t.failures),
         }
     }
 
     // With one accepted shape more.
     pub(crate) fn with_shape(mut self) -> Self {
-        self.shapes = wrapping_add_u64(self.shapes, 1);
+        self.shapes = self.shapes.wrapping_add(1);
         self
     }
 
@@ -122,22 +121,22 @@ impl Counts {
             other: seen.other,
             none: one_if(seen.refused == 0),
             all: one_if(seen.refused == seen.survivors),
-            failures: wrapping_add_u64(seen.failures, one_if(!back)),
+            failures: seen.failures.wrapping_add(one_if(!back)),
         })
     }
 
     // The counts, each after its word, and the end of the line.
-    pub(crate) fn print(self) {
-        part(b" shapes", self.shapes);
-        part(b" sets", self.sets);
-        part(b" back", self.back);
-        part(b" unused", self.unused);
-        part(b" tight", self.tight);
-        part(b" survivors", self.survivors);
-        part(b" refused", self.refused);
-        part(b" other", self.other);
-        part(b" none", self.none);
-        part(b" all", self.all);
-        io::write_all(STDOUT_FILENO, b"\n");
+    pub(crate) fn print(self, rt: &impl Print) -> io::Result<()> {
+        part(rt, b" shapes", self.shapes)?;
+        part(rt, b" sets", self.sets)?;
+        part(rt, b" back", self.back)?;
+        part(rt, b" unused", self.unused)?;
+        part(rt, b" tight", self.tight)?;
+        part(rt, b" survivors", self.survivors)?;
+        part(rt, b" refused", self.refused)?;
+        part(rt, b" other", self.other)?;
+        part(rt, b" none", self.none)?;
+        part(rt, b" all", self.all)?;
+        println!(rt)
     }
 }

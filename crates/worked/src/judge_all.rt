@@ -1,6 +1,6 @@
 // Judges every n, r and s from 0 to 33 at e = 1, and prints how many inputs give each number and what the named pairs add up to.
-use libc::STDOUT_FILENO;
 use shape::{Judged, Refusal};
+use std::io;
 
 // How many inputs gave each number, and the sums of the pairs' strips.
 #[derive(Clone, Copy)]
@@ -33,25 +33,25 @@ impl Tally {
     fn counted(mut self, n: usize, r: usize, s: usize) -> Self {
         match shape::judge(n, r, s, 1) {
             Judged::Good(_, _) => {
-                self.good = std::num::wrapping_add_u64(self.good, 1);
+                self.good = self.good.wrapping_add(1);
             }
             Judged::Refused(x) => match x {
                 Refusal::Strips => {
-                    self.strips = std::num::wrapping_add_u64(self.strips, 1);
+                    self.strips = self.strips.wrapping_add(1);
                 }
                 Refusal::Rows => {
-                    self.rows = std::num::wrapping_add_u64(self.rows, 1);
+                    self.rows = self.rows.wrapping_add(1);
                 }
                 Refusal::Shift => {
-                    self.shift = std::num::wrapping_add_u64(self.shift, 1);
+                    self.shift = self.shift.wrapping_add(1);
                 }
                 Refusal::Element => {
-                    self.element = std::num::wrapping_add_u64(self.element, 1);
+                    self.element = self.element.wrapping_add(1);
                 }
                 Refusal::Weak(a, b) => {
-                    self.weak = std::num::wrapping_add_u64(self.weak, 1);
-                    self.lower = std::num::wrapping_add_u64(self.lower, a as u64);
-                    self.upper = std::num::wrapping_add_u64(self.upper, b as u64);
+                    self.weak = self.weak.wrapping_add(1);
+                    self.lower = self.lower.wrapping_add(a as u64);
+                    self.upper = self.upper.wrapping_add(b as u64);
                 }
                 _ => {}
             },
@@ -70,41 +70,41 @@ impl Tally {
     }
 }
 
-pub(crate) fn part(word: &[u8], count: u64) {
-    io::write_all(STDOUT_FILENO, word);
-    io::write_all(STDOUT_FILENO, b" ");
-    io::print_decimal(STDOUT_FILENO, count);
+pub(crate) fn part(rt: &impl Print, word: &[u8], count: u64) -> io::Result<()> {
+    rt.write_all(word)?;
+    print!(rt; " {count}")
 }
 
-fn line(word: &[u8], count: u64) {
-    part(word, count);
-    io::write_all(STDOUT_FILENO, b"\n");
+fn line(rt: &impl Print, word: &[u8], count: u64) -> io::Result<()> {
+    part(rt, word, count)?;
+    println!(rt)
 }
 
 // How many of all inputs give each number.
-pub(crate) fn totals() {
+pub(crate) fn totals(rt: &impl Print) -> io::Result<()> {
     let mut t = Tally::new();
     for n in 0..34 {
         t = t.with_strips(n);
     }
-    line(b"0", t.good);
-    line(b"1", t.strips);
-    line(b"2", t.rows);
-    line(b"3", t.shift);
-    line(b"4", t.element);
-    line(b"5", t.weak);
-    line(b"upper", t.upper);
-    line(b"lower", t.lower);
+    line(rt, b"0", t.good)?;
+    line(rt, b"1", t.strips)?;
+    line(rt, b"2", t.rows)?;
+    line(rt, b"3", t.shift)?;
+    line(rt, b"4", t.element)?;
+    line(rt, b"5", t.weak)?;
+    line(rt, b"upper", t.upper)?;
+    line(rt, b"lower", t.lower)
 }
 
 // How many shapes of each n from 3 to 32 are good and weak.
-pub(crate) fn by_strips() {
+pub(crate) fn by_strips(rt: &impl Print) -> io::Result<()> {
     for n in 3..33 {
         let t = Tally::new().with_strips(n);
-        part(b"n", n as u64);
-        part(b" good", t.good);
-        part(b" weak", t.weak);
-        part(b" upper", t.upper);
-        io::write_all(STDOUT_FILENO, b"\n");
+        part(rt, b"n", n as u64)?;
+        part(rt, b" good", t.good)?;
+        part(rt, b" weak", t.weak)?;
+        part(rt, b" upper", t.upper)?;
+        println!(rt)?;
     }
+    Ok(())
 }

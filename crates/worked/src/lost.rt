@@ -1,22 +1,23 @@
 // Case C of 01 both ways, three chains of which none touches a lost U, and the masks that are refused.
 use crate::small::line;
+use std::io;
 
 // Case B's stripe with strips 0 and 1 lost.
-pub(crate) fn case_c() {
+pub(crate) fn case_c(rt: &impl Print) -> io::Result<()> {
     let mut s = [
         0xffu8, 0xff, 0xff, 0xff, 0xff, 0xff, 4, 0x80, 4, 8, 3, 0x22, 0x10, 5, 0x44, 0x1f, 0xe6,
     ];
     let x = rebuild::rebuild(5, 2, 2, 1, &mut s, 3);
-    line(b"C", x, &s);
+    line(rt, b"C", x, &s)
 }
 
 // The same with U(4) changed from 44 to 45, so that no sound stripe agrees.
-pub(crate) fn case_c_changed() {
+pub(crate) fn case_c_changed(rt: &impl Print) -> io::Result<()> {
     let mut t = [
         0xffu8, 0xff, 0xff, 0xff, 0xff, 0xff, 4, 0x80, 4, 8, 3, 0x22, 0x10, 5, 0x45, 0x1f, 0xe6,
     ];
     let y = rebuild::rebuild(5, 2, 2, 1, &mut t, 3);
-    line(b"C", y, &t);
+    line(rt, b"C", y, &t)
 }
 
 // n = 8, r = 3, s = 5 with strips 0 and 4 lost; its data byte of row i and strip j is 7 (8 i + j) + 1.
@@ -29,17 +30,22 @@ fn chains_lost() -> [u8; 35] {
 }
 
 // They are given back.
-pub(crate) fn three_chains() {
+pub(crate) fn three_chains(rt: &impl Print) -> io::Result<()> {
     let mut s = chains_lost();
     let x = rebuild::rebuild(8, 3, 5, 1, &mut s, 17);
-    line(b"chains", x, &s);
+    line(rt, b"chains", x, &s)
 }
 
 // A strip above n; three strips; nothing lost from a sound stripe; a mask that a weak shape never comes to.
-pub(crate) fn masks() {
+pub(crate) fn masks(rt: &impl Print) -> io::Result<()> {
     let mut s = [0u8; 17];
-    line(b"mask 40", rebuild::rebuild(5, 2, 2, 1, &mut s, 64), b"");
-    line(b"mask 7", rebuild::rebuild(5, 2, 2, 1, &mut s, 7), b"");
-    line(b"mask 0", rebuild::rebuild(5, 2, 2, 1, &mut s, 0), b"");
-    line(b"weak", rebuild::rebuild(4, 1, 2, 1, &mut s, 7), b"");
+    line(
+        rt,
+        b"mask 40",
+        rebuild::rebuild(5, 2, 2, 1, &mut s, 64),
+        b"",
+    )?;
+    line(rt, b"mask 7", rebuild::rebuild(5, 2, 2, 1, &mut s, 7), b"")?;
+    line(rt, b"mask 0", rebuild::rebuild(5, 2, 2, 1, &mut s, 0), b"")?;
+    line(rt, b"weak", rebuild::rebuild(4, 1, 2, 1, &mut s, 7), b"")
 }

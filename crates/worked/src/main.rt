@@ -10,16 +10,18 @@ mod lost_set;
 mod small;
 mod unused;
 
-fn main() {
-    small::case_a();
-    small::case_b_d();
-    small::damaged();
-    small::refused();
-    lost::case_c();
-    lost::case_c_changed();
-    lost::three_chains();
-    lost::masks();
-    judge_all::totals();
-    judge_all::by_strips();
-    erasures::totals();
+use std::io;
+
+fn main(rt: HostRuntime) -> io::Result<()> {
+    small::case_a(&rt)?;
+    small::case_b_d(&rt)?;
+    small::damaged(&rt)?;
+    small::refused(&rt)?;
+    lost::case_c(&rt)?;
+    lost::case_c_changed(&rt)?;
+    lost::three_chains(&rt)?;
+    lost::masks(&rt)?;
+    judge_all::totals(&rt)?;
+    judge_all::by_strips(&rt)?;
+    erasures::totals(&rt)
 }

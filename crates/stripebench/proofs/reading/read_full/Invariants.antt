@@ -1,0 +1,9 @@
+-- `read_full` ends: each read that goes on fills one byte or more. Assumes nothing.
+use Rattle.std.proofs.Common.{length, ◌-◌, ◌≤◌}
+use Rattle.stripebench.proofs.reading.read_full.Given as goal
+
+abbrev pub invariant-loop-done : goal.invariant-loop-done
+invariant-loop-done g l = l.done ≤ length l.buffer
+
+abbrev pub decreases-loop-done : goal.decreases-loop-done
+decreases-loop-done g l = length l.initial.buffer - l.done

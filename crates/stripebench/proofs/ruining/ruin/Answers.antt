@@ -1,0 +1,28 @@
+-- `ruin` meets its contract: an empty mask loses nothing, and another's first and last lost strip are the pair that it loses. Assumes nothing.
+use Rattle.std.proofs.Common.{rules, arith, ℕ, ◌≡◌, ap, ◌∙◌}
+use Rattle.shape.specs.Mask.{lost_in}
+use Rattle.shape.specs.LostLaws.{first_last, pair_lost}
+use Rattle.shape.specs.MaskEnds.{above_last}
+use Rattle.rebuild.specs.LostStrips.{empty_lost}
+use Rattle.stripebench.specs.RuinLaws.{ruins_none, ruins_both}
+use Rattle.stripebench.proofs.ruining.ruin.Goals as goal
+
+pub returns-then-mask-eq0 : goal.returns-then-mask-eq0
+returns-then-mask-eq0 c =
+    let none : c.args.mask ≡ 0 = search rules in
+    ruins_none _ _ _ (λ j. ap (λ (m : ℕ). lost_in m j) none ∙ empty_lost j) _
+
+pub ruin_strip-requires : goal.ruin_strip-requires
+ruin_strip-requires c =
+    let last = above_last c.args.mask c.args.shape.n _ c.requires.lost.0 c.last_lost-b.ensures in
+    record { limits = c.requires.limits; strip = omega (arith, first_last (lost_in c.args.mask) _ _ c.first_lost-a.ensures c.last_lost-b.ensures); size = c.requires.size }
+
+pub ruin_strip-requires-2 : goal.ruin_strip-requires-2
+ruin_strip-requires-2 c =
+    record { limits = c.requires.limits; strip = above_last c.args.mask c.args.shape.n _ c.requires.lost.0 c.last_lost-b.ensures; size = c.ruin_strip.ensures.kept.size ∙ c.requires.size }
+
+pub returns : goal.returns
+returns c =
+    let lost = lost_in c.args.mask in
+    ruins_both _ _ _ _ lost (pair_lost lost _ _ c.first_lost-a.ensures c.last_lost-b.ensures c.requires.lost.1) _ _ _
+    c.ruin_strip.ensures c.ruin_strip-2.ensures
