@@ -7,10 +7,11 @@ use Rattle.code.specs.Code.{Fails, Decided}
 use Rattle.code.specs.CodeLaws.{not_both}
 use Rattle.code.specs.Layout.{Layout, code, pair}
 use Rattle.code.specs.Shift.{shift}
-use Rattle.code.specs.Bound.{q, Good, wide, narrow, Before, FirstPair}
+use Rattle.code.specs.Bound.{q, Good, wide, narrow, Before, FirstPair, Order, first, equal, second}
 use Rattle.code.specs.Divisor.{WidestDivisor, q_widest}
-use Rattle.code.proofs.Positions.{Clear, decided_data, decided_parity}
-use Rattle.code.proofs.Failing.{Closed, fails_over, fails_at}
+use Rattle.code.proofs.Positions.{decided_data, decided_parity}
+use Rattle.code.specs.Positions.{Clear, Closed}
+use Rattle.code.proofs.Failing.{fails_over, fails_at}
 
 -- a shape is good or not
 pub good? : (n r s : ℕ) → Dec (Good n r s)
@@ -50,12 +51,6 @@ good_decided n r s ps ls good a b l lb = at (ℕ_discrete b n)
     at (no ne) = decided_data n r s ps (fits good) a b l (omega arith) (clear ne good)
 
 -- ---- first pairs
-
--- of two pairs one comes first, or they are equal
-pub data Order (a b c d : ℕ) : Type 0 where
-  first : Before a b c d → Order a b c d
-  equal : a ≡ c → b ≡ d → Order a b c d
-  second : Before c d a b → Order a b c d
 
 -- which of the three
 pub order : (a b c d : ℕ) → Order a b c d

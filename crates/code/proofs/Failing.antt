@@ -14,7 +14,8 @@ use Rattle.code.specs.Pair.{Matched, fails_two}
 use Rattle.code.specs.Circle.{to_mod}
 use Rattle.code.specs.Shift.{diagonal, shift}
 use Rattle.code.proofs.ShiftLaws.{shift_fair}
-use Rattle.code.proofs.Positions.{position, position_of, diagonal_at, value, value_row, value_low, value_high, value_strip}
+use Rattle.code.proofs.Positions.{position_of, diagonal_at, value_row, value_low, value_high, value_strip}
+use Rattle.code.specs.Positions.{position, value, Closed}
 
 lone : ◌≡◌ {A = ℕ} 1 0 → ⊥
 lone e = omega arith
@@ -35,14 +36,6 @@ fails_over n r s h ls over =
 
     none : (c d : ℕ) → c < n → d ≢ c → strip_sum (shift n r s) (λ i. only (eqb i z) 1) c d ≡ 0
     none c d lc nd = strip_sum_none (shift n r s) (λ i. only (eqb i z) 1) c d (λ k lk e. only_no k z 1 (λ q. nd (sym e ∙ ap (λ (i : ℕ). diagonal n r s i c) q ∙ own c lc)))
-
--- g divides n, and its multiples below n are all positions of rows
-pub record Closed (n r s g : ℕ) : Type 0 where
-  pub positive : 0 < g
-  pub proper : g < n
-  pub divides : n % g ≡ 0
-  pub first : s ≤ g
-  pub last : n < g + r + s
 
 module _ (n r s g : ℕ) (fits : r + s ≤ n) (c : Closed n r s g) where
   -- 1 at every row whose position g divides

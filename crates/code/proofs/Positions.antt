@@ -6,7 +6,7 @@ use Rattle.std.specs.Prelude.{ℕ, ◌+◌, ◌-◌, ◌%◌, ◌<◌, ◌≤◌
 use Rattle.std.proofs.Math.Path.{refl, sym, ap}
 use Rattle.std.proofs.Common.{◌∙◌, inl, inr, arith}
 use Rattle.std.proofs.Math.Decide.{ℕ_discrete}
-use Rattle.code.specs.Sum.{sum_to, only}
+use Rattle.code.specs.Sum.{only}
 use Rattle.code.specs.SumLaws.{sum_to_ext, sum_to_nil, sum_to_one, only_yes, only_no}
 use Rattle.code.specs.Code.{Decided}
 use Rattle.code.specs.Layout.{code, pair}
@@ -15,15 +15,8 @@ use Rattle.code.specs.Pair.{Matched, Cancelled, decided_two, decided_one}
 use Rattle.code.specs.Circle.{mod_cancel, to_mod, back}
 use Rattle.code.specs.Shift.{diagonal, meets, shift}
 use Rattle.code.proofs.ShiftLaws.{shift_fair}
+use Rattle.code.specs.Positions.{position, value, Clear}
 use Rattle.code.specs.Periods.{Repeats, Window, first, last, repeats_nil}
-
--- the position of row i
-unfoldable pub position : ℕ → ℕ → ℕ → ℕ
-position r s i = s + (r - 1 - i)
-
--- what stands at position u
-unfoldable pub value : ℕ → ℕ → (ℕ → ℕ) → ℕ → ℕ
-value r s y u = sum_to r (λ i. only (eqb (position r s i) u) (y i))
 
 -- ---- positions
 
@@ -97,10 +90,6 @@ module _ (r s : ℕ) (y : ℕ → ℕ) where
           ∙ sym (only_no (position r s i) u (y i) q)
 
 -- ---- what is decided
-
--- no divisor of n up to e has all its multiples below n among the rows' positions
-pub record Clear (n r s e : ℕ) : Type 0 where
-  pub each : (g : ℕ) → 0 < g → g ≤ e → n % g ≡ 0 → (g < s) ⊎ (g + r + s ≤ n)
 
 module _ (n r s : ℕ) (ps : 0 < s) (fits : r + s ≤ n) where
   -- two data strips: the values repeat at their distance

@@ -9,15 +9,10 @@ use Rattle.code.specs.SumLaws.{sum_to_ext, sum_to_reverse}
 use Rattle.code.specs.Layout.{Fair, Latin, X, U}
 use Rattle.code.specs.Sound.{Sound, Published}
 use Rattle.code.specs.SoundLaws.{sound_published, published_sound}
-use Rattle.code.specs.Shift.{diagonal, meets, shift, Printed}
+use Rattle.code.specs.Shift.{diagonal, meets, shift, Printed, Formula}
 use Rattle.code.specs.Circle.{mod_cancel, step_cancel}
 
 -- ---- the diagonal of a place
-
--- d is (j + i - (r - 1) - s) mod n
-pub record Formula (n r s i j d : ℕ) : Type 0 where
-  pub below : d < n
-  pub turned : (d + (r - 1) + s) % n ≡ (j + i) % n
 
 module _ (n r s : ℕ) (pn : 0 < n) where
   -- the multiple of n in front is large enough

@@ -32,3 +32,9 @@ pub record FirstPair (L : Layout) (a b : ℕ) : Type 0 where
   pub within : b ≤ L.n
   pub fails : Fails (code L) (pair a b)
   pub before : (c d : ℕ) → c < d → d ≤ L.n → Before c d a b → Decided (code L) (pair c d)
+
+-- of two pairs one comes first, or they are equal
+pub data Order (a b c d : ℕ) : Type 0 where
+  first : Before a b c d → Order a b c d
+  equal : a ≡ c → b ≡ d → Order a b c d
+  second : Before c d a b → Order a b c d

@@ -42,6 +42,8 @@ pub mod Circle
 pub mod Shift
 pub mod Bound
 pub mod Periods
+pub mod Positions
 pub mod Divisor
 pub mod Lookalikes
 pub mod SoundTest
+pub mod Rows

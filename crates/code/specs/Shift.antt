@@ -19,3 +19,8 @@ shift n r s = record { n = n; r = r; diagonal = diagonal n r s; meets = meets n 
 pub record Printed (n r s : ℕ) (f : ℕ → ℕ) : Type 0 where
   pub h : (i : ℕ) → i < r → f (H (shift n r s) i) ≡ sum_to n (λ j. f (X (shift n r s) i j))
   pub u : (j : ℕ) → j < n → f (U (shift n r s) j) ≡ sum_to r (λ k. f (X (shift n r s) (r - 1 - k) ((j + k + s) % n)))
+
+-- d is (j + i - (r - 1) - s) mod n
+pub record Formula (n r s i j d : ℕ) : Type 0 where
+  pub below : d < n
+  pub turned : (d + (r - 1) + s) % n ≡ (j + i) % n

@@ -6,23 +6,13 @@ use Rattle.std.specs.Int.Bits.{bit_or, or_add_and, or_zero_l}
 use Rattle.std.proofs.lemmas.Nat.{and_le_l, and_le_r}
 use Rattle.std.proofs.lemmas.List.{length-replicate, get_or-replicate}
 use Rattle.code.specs.Xor.{◌⊕◌}
-use Rattle.code.specs.Sum.{sum_to}
 use Rattle.code.specs.SumLaws.{sum_to_none, sum_to_more, sum_to_four, sum_index, sum_ext, clash}
 use Rattle.element.specs.Filled.{Begins, Filled}
 use Rattle.element.specs.FilledLaws.{filled_begins, filled_then}
+use Rattle.element.specs.Sofar.{partial, Sofar}
 use Rattle.element.specs.Gather.{from, four, total, Fits, Apart, Gathered, Zero, Tells, Any}
 
 -- ---- a block of the sum, source after source
-
--- byte k of the sum of the first j ranges
-abbrev pub partial : List ℕ → List ℕ → ℕ → ℕ → ℕ
-partial s os j k = sum_to j (λ i. from s k (get_or os i 0))
-
--- a holds m bytes of that sum, from byte k on
-pub record Sofar (s os : List ℕ) (k m j : ℕ) (a : List ℕ) : Type 0 where
-  pub long : length a ≡ 128
-  pub within : j ≤ length os
-  pub each : (t : ℕ) → t < m → get_or a t 0 ≡ partial s os j (k + t)
 
 pub sofar_none : (s os : List ℕ) (k m : ℕ) → m ≤ 128 → Sofar s os k m 0 (replicate 128 0)
 sofar_none s os k m h =

@@ -3,6 +3,7 @@ pub mod Filled
 pub mod FilledLaws
 -- Sums of ranges of bytes, by their offsets.
 pub mod Gather
+pub mod Sofar
 -- A run of bytes added to a part.
 pub mod Added
 pub mod AddedLaws

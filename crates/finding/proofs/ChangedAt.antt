@@ -18,16 +18,8 @@ use Rattle.finding.specs.Found.{wrong_row, wrong_diagonal}
 use Rattle.finding.specs.Tally.{Tallied}
 use Rattle.finding.proofs.TallyLaws.{tallied_same, tallied_one, tallied_none}
 use Rattle.finding.proofs.WrongLaws.{row_wrong, diagonal_wrong}
+use Rattle.finding.specs.ChangedAt.{ChangedAt}
 use Rattle.finding.specs.LinesOf.{Once, Off, OnOne, OnNone, once_sum, off_sum}
-
--- t is s with another element at place p, and nothing else changed
-pub record ChangedAt (L : Layout) (e p : ℕ) (s t : List ℕ) : Type 0 where
-  pub long : length t ≡ length s
-  pub others : (q k : ℕ) → q < places L → q ≢ p → k < e → at t e k q ≡ at s e k q
-  -- a byte that differs
-  pub byte : ℕ
-  pub within : byte < e
-  pub differs : at s e byte p ≢ at t e byte p
 
 module _ (L : Layout) (F : Fair L) (e p : ℕ) (s t : List ℕ) (sound : (k : ℕ) → k < e → Sound L (at s e k)) (c : ChangedAt L e p s t) where
   -- ---- one line

@@ -8,7 +8,7 @@ use Rattle.code.specs.Sum.{only}
 use Rattle.code.specs.Below.{count, first}
 use Rattle.code.specs.BelowLaws.{first_same, first_at, first_or_none}
 use Rattle.code.specs.CountLaws.{count_same, zero_count, count_one}
-use Rattle.finding.specs.Tally.{Tallied}
+use Rattle.finding.specs.Tally.{Tallied, Tallying}
 
 -- ---- tallies
 
@@ -37,15 +37,6 @@ pub tallied_none : (m : ℕ) (t : ℕ → Bool) → ((k : ℕ) → k < m → t k
 tallied_none m t h = record { many = sym (zero_count m t h); lowest = refl }
 
 -- ---- the loop, from the last line to the first
-
--- from left on c of the tests hold, the first of them at f
-pub record Tallying (m : ℕ) (t : ℕ → Bool) (left c f : ℕ) : Type 0 where
-  pub within : left ≤ m
-  pub room : c + left ≤ m
-  pub rest : c + count left t ≡ count m t
-  pub low : f ≤ m
-  pub before : (j : ℕ) → left ≤ j → j < f → t j ≡ false
-  pub hit : f < m → t f ≡ true
 
 pub tallying_none : (m : ℕ) (t : ℕ → Bool) → Tallying m t m 0 m
 tallying_none m t =

@@ -4,3 +4,4 @@ pub mod Found
 pub mod Tally
 -- One changed element.
 pub mod LinesOf
+pub mod ChangedAt

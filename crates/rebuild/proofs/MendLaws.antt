@@ -12,9 +12,9 @@ use Rattle.code.specs.Shift.{shift}
 use Rattle.shape.specs.declared.refusal.Refusal.TheVariants.{NoSound}
 use Rattle.shape.specs.declared.refusal.Answer.TheVariants.{Done, Refused}
 use Rattle.shape.specs.Mask.{lost_in}
-use Rattle.rebuild.specs.Rebuild.{Kept, Agreeable}
+use Rattle.rebuild.specs.Rebuild.{Kept, Agreeable, is_mended, is_cleared}
 use Rattle.rebuild.specs.RebuildNumber.{Accepted}
-use Rattle.rebuild.proofs.RebuildLaws.{kept_refl, mended_agreeable, is_mended, is_cleared, ended_same}
+use Rattle.rebuild.proofs.RebuildLaws.{kept_refl, mended_agreeable, ended_same}
 use Rattle.rebuild.specs.Clear.{Clears}
 use Rattle.rebuild.specs.Testing.{Tests}
 use Rattle.rebuild.specs.PlanRun.{Mends}

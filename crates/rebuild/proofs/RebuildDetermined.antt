@@ -17,11 +17,11 @@ use Rattle.shape.specs.Limits.{Limits}
 use Rattle.shape.specs.Mask.{lost_in}
 use Rattle.shape.specs.Call.{bytes_of, answer_number, Answered}
 use Rattle.shape.specs.CallLaws.{answered_same}
-use Rattle.rebuild.specs.Rebuild.{last_of, rebuild_number, Kept, Agreeable, Rebuilds}
+use Rattle.rebuild.specs.Rebuild.{last_of, rebuild_number, Kept, Agreeable, Rebuilds, Ended, is_mended, is_cleared}
 use Rattle.rebuild.specs.RebuildNumber.{Accepted, Numbered, early, late}
 use Rattle.rebuild.proofs.RebuildNumberLaws.{numbered, accepted_number}
 use Rattle.rebuild.specs.LostStrips.{empty_accepted, empty_lost}
-use Rattle.rebuild.proofs.RebuildLaws.{kept_refl, kept_trans, kept_same, Ended, is_mended, is_cleared, ended, ended_same, rebuild_done, rebuild_exactly}
+use Rattle.rebuild.proofs.RebuildLaws.{kept_refl, kept_trans, kept_same, ended, ended_same, rebuild_done, rebuild_exactly}
 
 -- ---- it leaves nothing open
 

@@ -17,7 +17,7 @@ use Rattle.shape.specs.Refusal.{number_of, number_determined}
 use Rattle.shape.specs.Mask.{lost_in}
 use Rattle.shape.specs.Call.{answer_number}
 use Rattle.shape.specs.CallLaws.{done_refused}
-use Rattle.rebuild.specs.Rebuild.{last_of, Kept, Agreeable, Mended, Cleared, Rebuilds}
+use Rattle.rebuild.specs.Rebuild.{last_of, Kept, Agreeable, Mended, Cleared, Rebuilds, Ended, is_mended, is_cleared}
 use Rattle.rebuild.specs.RebuildNumber.{Accepted}
 use Rattle.rebuild.proofs.RebuildNumberLaws.{accepted_number}
 use Rattle.rebuild.specs.LostStrips.{lost_decided}
@@ -52,11 +52,6 @@ module _ (L : Layout) (e : ℕ) (lost : ℕ → Bool) where
   mended_agreeable b a m = record { stripe = a; sound = m.sound; agree = m.kept.survivors }
 
 -- ---- an accepted rebuild
-
--- it is done or it clears
-pub data Ended (L : Layout) (e : ℕ) (lost : ℕ → Bool) (before after : List ℕ) : Answer → Type 0 where
-  is_mended : Mended L e lost before after → Ended L e lost before after Done
-  is_cleared : Cleared L e lost before after → Ended L e lost before after (Refused NoSound)
 
 module _ (n r s e mask : ℕ) (b : List ℕ) (k : Accepted n r s e (length b) mask) where
   fair : Fair (shift n r s)

@@ -54,3 +54,8 @@ pub record Rebuilds (n r s e mask : ℕ) (before after : List ℕ) (x : Answer) 
   pub done : x ≡ Done → Mended (shift n r s) e (lost_in mask) before after
   pub none : x ≡ Refused NoSound → Cleared (shift n r s) e (lost_in mask) before after
   pub refused : (y : Refusal) → x ≡ Refused y → y ≢ NoSound → after ≡ before
+
+-- it is done or it clears
+pub data Ended (L : Layout) (e : ℕ) (lost : ℕ → Bool) (before after : List ℕ) : Answer → Type 0 where
+  is_mended : Mended L e lost before after → Ended L e lost before after Done
+  is_cleared : Cleared L e lost before after → Ended L e lost before after (Refused NoSound)

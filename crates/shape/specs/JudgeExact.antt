@@ -7,9 +7,9 @@ use Rattle.code.specs.Layout.{Layout, Fair, code, pair}
 use Rattle.code.specs.Code.{Fails, Decided}
 use Rattle.code.specs.Shift.{shift}
 use Rattle.code.proofs.ShiftLaws.{shift_fair}
-use Rattle.code.specs.Bound.{Before, FirstPair}
+use Rattle.code.specs.Bound.{Before, FirstPair, Order, first, equal, second}
 use Rattle.code.specs.Bound as bound
-use Rattle.code.proofs.Exact.{exact, good?, good_decided, Order, order, first, equal, second}
+use Rattle.code.proofs.Exact.{exact, good?, good_decided, order}
 use Rattle.code.specs.Lookalikes.{Lookalikes, lookalikes_of_fails, no_lookalikes_of_decided}
 use Rattle.shape.specs.declared.Judged.{Judged}
 use Rattle.shape.specs.declared.Judged.TheVariants.{Good, Refused}

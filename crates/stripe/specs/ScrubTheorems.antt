@@ -16,7 +16,8 @@ use Rattle.finding.specs.declared.Finding.TheVariants as finding
 use Rattle.finding.specs.Found.{wrong_row, wrong_diagonal, found}
 use Rattle.finding.proofs.FoundLaws.{found_sound, found_U, found_H, found_element, found_tallied, sound_counts}
 use Rattle.finding.specs.LinesOf.{X_row, X_diagonal, H_row, H_diagonal, U_row, U_diagonal}
-use Rattle.finding.proofs.ChangedAt.{ChangedAt, one_row, no_row, one_diagonal, no_diagonal}
+use Rattle.finding.proofs.ChangedAt.{one_row, no_row, one_diagonal, no_diagonal}
+use Rattle.finding.specs.ChangedAt.{ChangedAt}
 use Rattle.stripe.specs.declared.scrubbing.Scrubbed.{Scrubbed}
 use Rattle.stripe.specs.declared.scrubbing.Scrubbed.TheVariants.{Counted, Refused}
 use Rattle.stripe.specs.Scrub.{Scrubs, counted_of}

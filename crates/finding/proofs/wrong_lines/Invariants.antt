@@ -5,7 +5,7 @@ use lib.ListN.{length}
 use Rattle.code.specs.Layout.{line}
 use Rattle.code.specs.Shift.{shift}
 use Rattle.lines.specs.Unbalanced.{unbalanced}
-use Rattle.finding.proofs.TallyLaws.{Tallying}
+use Rattle.finding.specs.Tally.{Tallying}
 use Rattle.finding.proofs.wrong_lines.Given as goal
 
 abbrev pub invariant-loop-left : goal.invariant-loop-left

@@ -1,7 +1,7 @@
 -- `sum_block` meets its contract: 128 bytes of the sum, four sources a turn and then one by one. Assumes nothing.
 use Prim.Native.Nat.{◌-◌}
 use lib.ListN.{length}
-use Rattle.element.proofs.GatherLaws.{Sofar}
+use Rattle.element.specs.Sofar.{Sofar}
 use Rattle.element.proofs.kernel.sum_block.Given as goal
 
 abbrev pub invariant-loop-j : goal.invariant-loop-j

@@ -1,7 +1,7 @@
 -- `sum_tail` meets its contract: the last m bytes of the sum, one source a turn. Assumes nothing.
 use Prim.Native.Nat.{◌-◌}
 use lib.ListN.{length}
-use Rattle.element.proofs.GatherLaws.{Sofar}
+use Rattle.element.specs.Sofar.{Sofar}
 use Rattle.element.proofs.kernel.sum_tail.Given as goal
 
 abbrev pub invariant-loop-j : goal.invariant-loop-j
