@@ -1,25 +1,9 @@
 -- `low_first` meets its contract: after the bytes from k on, the value is their number. Assumes nothing.
-use Rattle.std.proofs.Common.{◌≡◌, List, ℕ, ◌+◌, ◌-◌, ◌*◌, ◌^◌, ◌<◌, ◌≤◌, length, get_or, drop, sym, ap, ◌∙◌, subst, lt_of_lt_of_le, arith, length-drop, pow_mono, get_or-drop}
+use Rattle.std.proofs.Common.{◌≡◌, List, ℕ, ◌+◌, ◌-◌, ◌*◌, ◌<◌, ◌≤◌, length, get_or, drop, sym, ap, ◌∙◌, arith}
 use Rattle.std.proofs.Math.Seq.{drop-length}
-use Rattle.stripebench.specs.Numbers.{low_first, low_first_more, below}
+use Rattle.stripebench.specs.Numbers.{low_first, LowFirst}
+use Rattle.stripebench.proofs.NumbersLaws.{low_first_step}
 use Rattle.stripebench.proofs.numbers.low_first.Goals as goal
-
--- one byte more in front: the number, and that it fits into 64 bits where there are at most 8 bytes
-record LowFirst (l : List ℕ) (k x : ℕ) : Type 0 where
-  is : x ≡ low_first (drop k l)
-  fits : x < 2 ^ 64
-
-low_first_step : (l : List ℕ) → length l ≤ 8 → ((i : ℕ) → get_or l i 0 < 256) → (k v : ℕ) → k < length l → v ≡ low_first (drop (k + 1) l)
-    → LowFirst l k (get_or l k 0 + 256 * v)
-low_first_step l m h k v lk q =
-    let e : 8 * length (drop k l) ≤ 64 = omega (arith, length-drop k l) in
-    record {
-      is = same;
-      fits = subst (λ (x : ℕ). x < 2 ^ 64) (sym same) (lt_of_lt_of_le (below (drop k l) (λ i li. subst (λ (x : ℕ). x < 256) (sym (get_or-drop k l i 0)) (h (k + i)))) (pow_mono e));
-    }
-  where
-    same : get_or l k 0 + 256 * v ≡ low_first (drop k l)
-    same = ap (λ (x : ℕ). get_or l k 0 + 256 * x) q ∙ sym (low_first_more l k lk)
 
 -- the loop's step, from the bytes at k on to those at k - 1 on
 step : (l : List ℕ) (k v : ℕ) → length l ≤ 8 → ((i : ℕ) → get_or l i 0 < 256) → 0 < k → k ≤ length l → v ≡ low_first (drop k l)

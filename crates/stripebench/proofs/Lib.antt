@@ -1,0 +1,2 @@
+-- The laws of the definitions of specs/ that the must-fail edits change.
+pub mod NumbersLaws
