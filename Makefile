@@ -3,7 +3,7 @@
 
 help:
 	@echo 'make demo     a sand figure is stored, two disks are lost, and it comes back; PLATE="--mode 2,9" and the like choose'
-	@echo 'make test     the gate, .ci/run: prove every crate from nothing, then all tests'
+	@echo 'make test     the gate, .ci/run: prove every crate, then all tests'
 	@echo 'make lib      target/staticlib/libfiddlefern.a, for C and Rust to link'
 	@echo 'make bench    how fast the calls of that archive are, against memcpy and plain Rust'
 	@echo 'make figures  the figures of docs/PERFORMANCE.md: sizes, check times, instructions, stack, speed'
@@ -13,7 +13,7 @@ test:
 	.ci/run
 
 lib:
-	rt staticlib fiddlefern
+	.ci/archive
 
 demo: lib
 	CARGO_TARGET_DIR=rust/target cargo run --quiet --offline --locked --manifest-path rust/Cargo.toml --package fiddlefern --example plate -- --out target/demo $(PLATE)
@@ -22,7 +22,7 @@ bench:
 	cargo bench --offline --manifest-path rust/Cargo.toml --package fiddlefern --bench calls
 
 fmt:
-	rt fmt
+	for crate in crates/*/; do (cd "$$crate" && rt fmt) || exit 1; done
 
 figures:
 	@tools/figures.sh

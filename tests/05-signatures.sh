@@ -39,7 +39,7 @@ of_exports >"$room/exports"
 of_header >"$room/header"
 of_declarations >"$room/declarations"
 
-count=$(wc -l <"$room/exports") marked=$(grep -c '^#\[no_mangle\]' "$exports")
+count=$(wc -l <"$room/exports") marked=$(grep -c '^#\[unsafe(no_mangle)\]' "$exports")
 [ "$count" -gt 0 ] && [ "$count" -eq "$marked" ] || { echo "$exports: $count calls read, and $marked are exported" && exit 1; }
 diff --label "$exports" --label "$header" -u0 "$room/exports" "$room/header" || exit 1
 diff --label "$exports" --label "$declarations" -u0 "$room/exports" "$room/declarations" || exit 1

@@ -4,8 +4,8 @@
 set -u
 CDPATH='' cd -P -- "$(dirname -- "${BASH_SOURCE[0]}")/.." || exit 2
 
-bench=target/bin/stripebench
-[ -x $bench ] || { echo "$bench is not there: rt check stripebench builds it" && exit 1; }
+bench=crates/stripebench/out/stripebench
+[ -x $bench ] || { echo "$bench is not there: rt ci builds it, and so does rt run in crates/stripebench" && exit 1; }
 room=$(mktemp -d) || exit 2
 trap 'rm -rf "$room"' EXIT
 runs=0 wrong=0

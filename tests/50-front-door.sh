@@ -3,10 +3,10 @@
 # - the table of README.md between `<!-- greatest rows -->` and `<!-- end -->` is what tools/greatest_rows.c prints, byte for byte;
 # - the C program of README.md, the fenced block after `<!-- example.c -->`, compiles without a warning and ends with 0;
 # - every relative link of README.md and docs/*.md names a file;
-# - names in backticks in README.md and docs/ are there: a word with hyphens is a law, defined in crates/*/specs; one with
-#   underscores an edit of crates/*/must-fail, or a function; crate::function is a function of that crate. In every file of docs/ names before
-#   (File) or (crate, File), or before a table's cell that has only such files, are defined in one of them, crates/crate/specs/File.antt. No
-#   other word in backticks is looked for.
+# - names in backticks in README.md and docs/ are there: a word with underscores is a definition or a law of crates/*/specs or crates/*/proofs, an
+#   edit of crates/*/must-fail, or a function; one with hyphens a folder of rust/; crate::function is a function of that crate. In every file of
+#   docs/ names before (File) or (crate, File), or before a table's cell that has only such files, are defined in one of them,
+#   crates/crate/specs/File.antt or crates/crate/proofs/File.antt. No other word in backticks is looked for.
 set -u
 CDPATH='' cd -P -- "$(dirname -- "${BASH_SOURCE[0]}")/.." || exit 2
 
@@ -54,10 +54,10 @@ links() {
     printf '%d links\n' "$count"
 }
 
-# Every definition of the specs, a line "CRATE FILE NAME" each.
+# Every definition and law of the specs and beside the proofs, a line "CRATE FILE NAME" each.
 defined() {
-    grep -oE '^ *((abbrev|unfoldable|pub) +)*((record|data) +[^ ]+|[^ ]+ +:)' crates/*/specs/*.antt |
-        sed -E 's#^crates/([^/]+)/specs/([^.]+)\.antt: *((abbrev|unfoldable|pub) +)*((record|data) +)?([^ ]+)( +:)?$#\1 \2 \7#'
+    grep -oE '^ *((abbrev|unfoldable|pub) +)*((record|data) +[^ ]+|[^ ]+ +:)' crates/*/{specs,proofs}/*.antt |
+        sed -E 's#^crates/([^/]+)/(specs|proofs)/([^.]+)\.antt: *((abbrev|unfoldable|pub) +)*((record|data) +)?([^ ]+)( +:)?$#\1 \3 \8#'
 }
 
 # Whether a function or a type $1 stands in the sources of crate $2, or of any; or the word in the C header or the Rust crates.
@@ -69,9 +69,10 @@ words() {
     local word crate
     while IFS= read -r word; do
         if [[ $word =~ ^[A-Za-z]+(-[A-Za-z]+)+$ ]]; then
-            grep -q " $word\$" "$room/defined" || [ -d "rust/$word" ] || fault "$1: no law $word"
+            [ -d "rust/$word" ] || fault "$1: no folder rust/$word"
         elif [[ $word =~ ^[A-Za-z0-9]+(_[A-Za-z0-9]+)+$ ]]; then
-            compgen -G "crates/*/must-fail/$word.edit" >/dev/null || in_crate "$word" '*' || at_boundary "$word" || fault "$1: no edit or function $word"
+            grep -q " $word\$" "$room/defined" || compgen -G "crates/*/must-fail/$word.edit" >/dev/null || in_crate "$word" '*' ||
+                at_boundary "$word" || fault "$1: no law, edit or function $word"
         elif [[ $word =~ ^([a-z_]+)::([a-z_:]+)(\(.*)?$ ]] && crate=${BASH_REMATCH[1]} word=${BASH_REMATCH[2]} && [ -d "crates/$crate" ]; then
             in_crate "${word##*:}" "$crate" || fault "$1: no function $word in crate $crate"
         else
@@ -82,7 +83,7 @@ words() {
 }
 
 # The names of the file $1 that stand before their files: `a`, `b` (File) or | `a` | crate File, crate File |.
-name='`[A-Za-z][A-Za-z-]*`' files='([a-z]+,? )?[A-Z][A-Za-z]+(, ([a-z]+,? )?[A-Z][A-Za-z]+)*'
+name='`[A-Za-z][A-Za-z_]*`' files='([a-z]+,? )?[A-Z][A-Za-z]+(, ([a-z]+,? )?[A-Z][A-Za-z]+)*'
 placed() {
     local said word crate where
     while IFS= read -r said; do

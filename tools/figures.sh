@@ -1,5 +1,6 @@
 #!/usr/bin/env bash
-# Prints the figures of docs/PERFORMANCE.md, each part below the command that gives it. `make lib` builds the archive that is measured.
+# Prints the figures of docs/PERFORMANCE.md, each part below the command that gives it. `make lib` builds the archive that is measured. With --anew
+# every crate is checked from nothing first, one after the other, for the seconds that this takes.
 set -u
 CDPATH='' cd -P -- "$(dirname -- "${BASH_SOURCE[0]}")/.." || exit 2
 
@@ -7,13 +8,21 @@ CDPATH='' cd -P -- "$(dirname -- "${BASH_SOURCE[0]}")/.." || exit 2
 lines() { find "crates/$1" -name "*.$2" -exec cat {} + 2>/dev/null | wc -l; }
 functions() { find "crates/$1/src" -name '*.rt' -exec cat {} + | grep -cE '^ *(pub(\([a-z]+\))? )?(extern "C" )?fn '; }
 edits() { find "crates/$1" -name '*.edit' | wc -l; }
-seconds() { sed -n "s/^rt: $1 proved (\([0-9]* s\))$/\1/p" "target/log/$1.out" 2>/dev/null | tail -n 1; }
+seconds() { awk -v name="$1" '$1 == name { print $2 - last " s" } { last = $2 }' target/log/checks 2>/dev/null; }
+
+# Leaves in target/log/checks each crate and the second in which its check ended.
+checks() {
+    mkdir -p target/log && SECONDS=0
+    rt all verdict --jobs 1 </dev/null | while IFS= read -r line; do
+        [[ $line != '== '* ]] || printf '%s %d\n' "${line#== }" $SECONDS
+    done >target/log/checks
+    return "${PIPESTATUS[0]}"
+}
 
 row() { printf '| %s | %s | %s | %s | %s | %s | %s |\n' "$@"; }
 
 # As a Markdown table, how large each crate is: lines of code with contracts (src/), of definitions and laws (specs/) and of proofs (proofs/),
-# blank lines and comments with them; functions; must-fail edits; and the seconds of its last check where target/log has them (a crate that
-# was proved before and has not changed has none: `rt prove` takes all anew).
+# blank lines and comments with them; functions; must-fail edits; and the seconds of its last check from nothing, where --anew has taken them.
 sizes() {
     row crate functions code specs proofs 'must-fail edits' 'last check'
     echo '|---|---|---|---|---|---|---|'
@@ -23,7 +32,7 @@ sizes() {
         for k in "${!figures[@]}"; do total[k]=$((total[k] + figures[k])); done
         time=$(seconds "$name")
         row "$name" "${figures[@]}" "${time:--}"
-    done < <(sed 's/#.*//' crates.txt | tr -d '[:blank:]' | grep ':')
+    done < <(sed -E 's/#.*//; s/^[[:blank:]]*([^:[:blank:]]+)[^:]*/\1/' crates.txt | grep ':')
     row all "${total[@]}" ''
 }
 
@@ -33,6 +42,7 @@ part() { # COMMAND..
     "$@" || printf '%s ended with status %d\n' "$*" $?
 }
 
+if [ "${1:-}" = --anew ]; then checks || exit 1; fi
 sizes
 [ -e target/staticlib/libfiddlefern.a ] || { printf '\nno archive is there to measure: make lib builds it\n' && exit 0; }
 part tests/20-call-cost.sh
