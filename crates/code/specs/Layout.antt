@@ -32,7 +32,7 @@ pub record Latin (L : Layout) : Type 0 where
   pub down : (i m j : ℕ) → i < L.r → m < L.r → j < L.n → L.diagonal i j ≡ L.diagonal m j → i ≡ m
 
 module _ (L : Layout) where
-  -- the rows of a data strip: r of data and one of v_parity
+  -- the rows of a data strip: r of data and one of v-parity
   abbrev pub height : ℕ
   height = L.r + 1
 

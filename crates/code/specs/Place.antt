@@ -1,5 +1,5 @@
--- Places: row i of strip j stands at place j h + i, where a data strip has h rows, r of data and v of v_parity (h = r + v; v = 1 here), and
--- strip n, the h_parity strip, has r. Byte k of place p of a stripe of e-byte elements is byte p e + k. Assumes nothing.
+-- Places: row i of strip j stands at place j h + i, where a data strip has h rows, r of data and v of v-parity (h = r + v; v = 1 here), and
+-- strip n, the h-parity strip, has r. Byte k of place p of a stripe of e-byte elements is byte p e + k. Assumes nothing.
 use Rattle.std.specs.Prelude.{◌≡◌, ◌≢◌, ◌⊎◌, List, ℕ, ◌+◌, ◌*◌, ◌%◌, ◌/◌, ◌≤◌, ◌<◌, get_or}
 use Rattle.std.proofs.Common.{sym, ap, ◌∙◌, subst, inl, inr, mul-le-mul, suc-mul, mul_comm, le_refl, arith}
 use Rattle.std.proofs.Math.Decide.{dec_lt}

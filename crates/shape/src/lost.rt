@@ -11,7 +11,7 @@ pub fn lost_count(mask: u64) -> u32
     u64::count_ones(mask)
 }
 
-// Whether the mask has a one above bit n; bit n itself is the h_parity strip's.
+// Whether the mask has a one above bit n; bit n itself is the h-parity strip's.
 pub fn above(mask: u64, n: usize) -> bool
     requires { n ≤ 63 }
     ensures { result ≡ above_test mask n }
