@@ -28,6 +28,11 @@ pub record Holds (c : Current) (room : List ℕ) : Type 0 where
 pub unset_holds : (room : List ℕ) → length room ≡ 32768 → Holds Unset room
 unset_holds room l = record { long = l; ready = λ h m q. absurd (let z : ◌≡◌ {A = ℕ} 0 1 = cc in omega arith) }
 
+-- what a record leaves whose reading or printing failed: the room holds for the shape that was set, or for the one that the record set
+pub record Left (room : List ℕ) : Type 0 where
+  pub current : Current
+  pub holds : Holds current room
+
 -- and after a record
 pub record Follows (x : Next) (room : List ℕ) : Type 0 where
   pub again : (c : Current) → x ≡ Again c → Holds c room

@@ -10,8 +10,8 @@ mod records;
 mod replies;
 mod ruining;
 
-ghost use Rattle.std.specs.Prelude.{IfOk};
-ghost use Rattle.stripebench.specs.Holding.{Holds, Follows};
+ghost use Rattle.std.specs.Prelude.{IfOk, OnErr};
+ghost use Rattle.stripebench.specs.Holding.{Holds, Left, Follows};
 
 use acting::Current;
 use records::Record;
@@ -32,7 +32,8 @@ fn one(
     room: &mut [u8],
 ) -> io::Result<Next>
     requires { Holds current room.old }
-    ensures { IfOk result (λ next. Follows next room.new) }
+    ensures ok { IfOk result (λ next. Follows next room.new) }
+    ensures err { OnErr result (Left room.new) }
 {
     let mut first = [0u8; 1];
     let got = reading::read_full(input, &mut first)?;
