@@ -52,6 +52,14 @@ abbrev pub scrubbed_packed : Scrubbed → ℕ
 scrubbed_packed (scrubbed.Counted a b f) = counted_packed a b f
 scrubbed_packed (scrubbed.Refused x) = refusal_packed x
 
+-- the version of the archive: major, minor, patch
+abbrev pub version : ℕ × ℕ × ℕ
+version = (0, 2, 0)
+
+-- byte 2 is the major number, byte 1 the minor one, byte 0 the patch
+abbrev pub version_packed : ℕ × ℕ × ℕ → ℕ
+version_packed v = v.0 * 65536 + v.1 * 256 + v.2
+
 -- ---- what is small enough to be packed
 
 pub record SmallAnswer (x : Answer) : Type 0 where
@@ -93,3 +101,7 @@ pub record RebuildAnswer (n r s e mask : ℕ) (before after : List ℕ) (k : ℕ
   pub answer : Answer
   pub rebuilds : Rebuilds n r s e mask before after answer
   pub packed : k ≡ answer_packed 0 answer
+
+-- no call on a stripe, so no number comes back: the version alone
+pub record VersionAnswer (k : ℕ) : Type 0 where
+  pub packed : k ≡ version_packed version

@@ -13,7 +13,7 @@ use Rattle.stripe.specs.WriteLaws.{write_determined}
 use Rattle.stripe.specs.ReadLaws.{read_check_determined}
 use Rattle.stripe.specs.ScrubTheorems.{scrub_determined}
 use Rattle.rebuild.proofs.RebuildDetermined.{rebuild_determined}
-use Rattle.fiddlefern.specs.Packed.{refusal_packed, judged_packed, answer_packed, finding_values, counted_packed, scrubbed_packed, SmallFinding, JudgeAnswer, EncodeAnswer, WriteAnswer, ReadAnswer, ScrubAnswer, RebuildAnswer}
+use Rattle.fiddlefern.specs.Packed.{refusal_packed, judged_packed, answer_packed, finding_values, counted_packed, scrubbed_packed, SmallFinding, JudgeAnswer, EncodeAnswer, WriteAnswer, ReadAnswer, ScrubAnswer, RebuildAnswer, VersionAnswer}
 use Rattle.fiddlefern.specs.ScrubSmall.{finding_most}
 
 -- ---- each part stands in bytes of its own
@@ -90,3 +90,6 @@ module _ (n r s e : ℕ) where
     rebuild_answer_determined mask a c k m x y =
         let d = rebuild_determined n r s e mask b a c x.answer y.answer x.rebuilds y.rebuilds in
         (x.packed ∙ ap (answer_packed 0) d.0 ∙ sym y.packed, d.1)
+
+pub version_answer_determined : (k m : ℕ) → VersionAnswer k → VersionAnswer m → k ≡ m
+version_answer_determined k m x y = x.packed ∙ sym y.packed

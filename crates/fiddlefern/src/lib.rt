@@ -3,7 +3,7 @@
 
 mod packing;
 
-ghost use Rattle.fiddlefern.specs.Packed.{JudgeAnswer, EncodeAnswer, WriteAnswer, ReadAnswer, ScrubAnswer, RebuildAnswer};
+ghost use Rattle.fiddlefern.specs.Packed.{JudgeAnswer, EncodeAnswer, WriteAnswer, ReadAnswer, ScrubAnswer, RebuildAnswer, VersionAnswer};
 
 use packing::{packed, packed_answer, packed_count};
 use shape::{Answer, Judged};
@@ -95,4 +95,18 @@ pub extern "C" fn fiddlefern_rebuild(
     ensures { RebuildAnswer n r s e mask stripe.old stripe.new result }
 {
     packed_answer(rebuild::rebuild(n, r, s, e, stripe, mask))
+}
+
+const MAJOR: u64 = 0;
+
+const MINOR: u64 = 2;
+
+const PATCH: u64 = 0;
+
+// The version of this archive: byte 2 is the major number, byte 1 the minor one, byte 0 the patch.
+#[unsafe(no_mangle)]
+pub extern "C" fn fiddlefern_version() -> u64
+    ensures { VersionAnswer result }
+{
+    MAJOR * 65536 + MINOR * 256 + PATCH
 }
