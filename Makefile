@@ -1,10 +1,16 @@
 # The commands of this repository; each is one line, and may be given by hand as well.
-.PHONY: help demo test lib bench figures fmt
+.PHONY: help demo test lib install uninstall bench figures fmt
+
+# Where make install puts headers, archive, pkg-config file and man page; DESTDIR stands before it where a package is made.
+PREFIX = /usr/local
+DESTDIR =
+export PREFIX DESTDIR
 
 help:
 	@echo 'make demo     a sand figure is stored, two disks are lost, and it comes back; PLATE="--mode 2,9" and the like choose'
 	@echo 'make test     the gate, .ci/run: prove every crate, then all tests'
 	@echo 'make lib      target/staticlib/libfiddlefern.a, for C and Rust to link'
+	@echo 'make install  headers, archive, pkg-config file and man page into PREFIX=/usr/local; make uninstall removes them'
 	@echo 'make bench    how fast the calls of that archive are, against memcpy and plain Rust'
 	@echo 'make figures  the figures of docs/PERFORMANCE.md: sizes, check times, instructions, stack, speed'
 	@echo 'make fmt      lay out every source file'
@@ -14,6 +20,12 @@ test:
 
 lib:
 	.ci/archive
+
+install:
+	@tools/install.sh
+
+uninstall:
+	@tools/install.sh --remove
 
 demo: lib
 	CARGO_TARGET_DIR=rust/target cargo run --quiet --offline --locked --manifest-path rust/Cargo.toml --package fiddlefern --example plate -- --out target/demo $(PLATE)

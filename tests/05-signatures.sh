@@ -28,6 +28,8 @@ of_declarations() {
 }
 of_header() {
     bare "$header" | grep -oE '[^;{}#"]*fiddlefern_[a-z_]+\([^()]*\) ?;' | laid_out | sed -E 's/^ +//
+        s/^FIDDLEFERN_MUST_USE //
+        s/\(void\)$/()/
         s/^uint64_t ([a-z_]+\(.*\))$/\1 -> u64/
         s/([(,] ?)const uint8_t \*([a-z_]+)/\1\2: *const u8/g
         s/([(,] ?)uint8_t \*([a-z_]+)/\1\2: *mut u8/g
