@@ -2,7 +2,7 @@
 //! `fiddlefern` makes them safe.
 //!
 //! The archive is looked for in the folder that the environment variable `FIDDLEFERN_LIB_DIR` names by its absolute
-//! path, and where it is not set in the folder `target/staticlib` of the repository, where `make lib` leaves it.
+//! path, and where it is not set or empty in the folder `target/staticlib` of the repository, where `make lib` leaves it.
 //!
 //! Every call takes any numbers and checks them itself, keeps no state and allocates nothing. Its answer is one 64-bit number:
 //!
@@ -17,7 +17,7 @@
 //! | with 0 from scrub, byte 4 | the row, with findings 1 and 3 |
 //! | with 0 from scrub, byte 5 | the diagonal with finding 2, the strip with finding 3 |
 //!
-//! Every other bit is zero. A slice is lent as a pointer and a length.
+//! Every other bit is zero. A slice is lent as a pointer and a length. Only the version is no such answer, and has no number.
 #![no_std]
 #![deny(missing_docs)]
 
@@ -105,4 +105,7 @@ unsafe extern "C" {
         len: usize,
         mask: u64,
     ) -> u64;
+
+    /// The version of the archive: byte 2 is the major number, byte 1 the minor one, byte 0 the patch.
+    pub safe fn fiddlefern_version() -> u64;
 }

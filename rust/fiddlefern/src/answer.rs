@@ -128,7 +128,7 @@ mod tests {
     #[test]
     #[should_panic(expected = "fiddlefern_scrub answered 0x1000000, which its contract excludes")]
     fn a_finding_without_its_count_is_excluded() {
-        scrub(0x0100_0000).finding();
+        let _ = scrub(0x0100_0000).finding();
     }
 
     #[test]

@@ -1,8 +1,13 @@
-//! The raw calls on Rust's slices: the one module with unsafe code.
+//! The raw calls on Rust's slices: the one module that makes them, and the one with unsafe code.
 #![allow(unsafe_code)]
 use crate::Shape;
 use crate::answer::Answer;
 use fiddlefern_sys as sys;
+
+/// The version of the archive, as `fiddlefern_sys` has it.
+pub(crate) fn version() -> u64 {
+    sys::fiddlefern_version()
+}
 
 pub(crate) fn judge(n: usize, r: usize, s: usize, e: usize) -> Answer {
     Answer {

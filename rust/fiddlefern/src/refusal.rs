@@ -63,7 +63,7 @@ pub enum Refusal {
     },
     /// 7: a strip above n is among the lost ones.
     Mask {
-        /// The highest strip among them.
+        /// The highest strip among them; 63 where a [`Lost`] was made of a higher number.
         strip: usize,
         /// The shape's n, the last strip.
         n: usize,
@@ -97,6 +97,7 @@ pub enum Refusal {
 
 impl Refusal {
     /// The refusal's number, the same in every language that calls the library.
+    #[must_use]
     pub const fn code(self) -> u8 {
         match self {
             Refusal::Strips { .. } => 1,

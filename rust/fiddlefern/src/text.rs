@@ -40,6 +40,41 @@ impl Display for Finding {
     }
 }
 
+/// A finding with the shape of the stripe that it is about.
+pub(crate) struct Told {
+    pub(crate) finding: Finding,
+    pub(crate) shape: Shape,
+}
+
+/// The finding, and the disk to look at where it is one.
+impl Display for Told {
+    fn fmt(&self, f: &mut Formatter<'_>) -> Result {
+        match self.finding {
+            Finding::Sound => self.finding.fmt(f),
+            Finding::Several { a, b } => {
+                counted(f, a, "row")?;
+                f.write_str(" and ")?;
+                counted(f, b, "diagonal")?;
+                f.write_str(" are wrong: more than one element is damaged")?;
+                write!(f, ", on any of disks 0 to {}", self.shape.data_strips())
+            }
+            finding => {
+                let disk = finding.strips(self.shape);
+                write!(f, "{finding}: look at disk {disk}")
+            }
+        }
+    }
+}
+
+/// How many of a kind there are.
+fn counted(f: &mut Formatter<'_>, count: usize, kind: &str) -> Result {
+    match count {
+        0 => write!(f, "no {kind}"),
+        1 => write!(f, "1 {kind}"),
+        _ => write!(f, "{count} {kind}s"),
+    }
+}
+
 impl Display for Refusal {
     fn fmt(&self, f: &mut Formatter<'_>) -> Result {
         match *self {
