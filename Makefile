@@ -12,7 +12,7 @@ help:
 	@echo 'make lib      target/staticlib/libfiddlefern.a, for C and Rust to link'
 	@echo 'make install  headers, archive, pkg-config file and man page into PREFIX=/usr/local; make uninstall removes them'
 	@echo 'make bench    how fast the calls of that archive are, against memcpy and plain Rust'
-	@echo 'make figures  the figures of docs/PERFORMANCE.md: sizes, check times, instructions, stack, speed'
+	@echo 'make figures  the figures of docs/PERFORMANCE.md: sizes, instructions, stack, speed'
 	@echo 'make fmt      lay out every source file'
 
 test:

@@ -33,7 +33,7 @@ fn one(
 ) -> io::Result<Next>
     requires { Holds current room.old }
     ensures ok { IfOk result (λ next. Follows next room.new) }
-    ensures err { OnErr result (Left room.new) }
+    ensures err { OnErr result (Left current room.old room.new) }
 {
     let mut first = [0u8; 1];
     let got = reading::read_full(input, &mut first)?;

@@ -1,11 +1,12 @@
 // Reading: a buffer is filled, unless the input ends before.
-ghost use Rattle.std.specs.Prelude.{◌≤◌, length, IfOk};
+ghost use Rattle.std.specs.Prelude.{◌≡◌, ◌≤◌, length, IfOk};
 
 use std::io::{self, Read};
 
 // Reads until the buffer is full or the input ends, and returns how many bytes it put at the start of the buffer.
 pub(crate) fn read_full(input: &mut impl Read, buffer: &mut [u8]) -> io::Result<usize>
-    ensures { IfOk result (λ n. n ≤ length buffer.new) }
+    ensures count { IfOk result (λ n. n ≤ length buffer.new) }
+    ensures len { length buffer.new ≡ length buffer.old }
 {
     let mut done = 0;
     while done < buffer.len() {
