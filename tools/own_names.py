@@ -5,8 +5,8 @@ usage: tools/own_names.py [--check]      at the top of the repository
 
 It rewrites the .antt files, the clauses of the .rt files and the must-fail edits of crates/. A name that a file imports from outside the
 repository stays as it is, and so does a comment's prose: of a comment only the names that some file declares turn. It ends with 1 where two names
-of specs/ would fall together. It is for the tree that the kit's port/port.py leaves of the commit that docs/PORT.md names first, and refuses one that
-has answers already: their names of goals have hyphens that stay.
+of specs/ would fall together. It is for the tree that the kit's port/port.py leaves of the commit that docs/PORT.md names first, and refuses one
+without its Proof.antt files: the answers that came in their place have names of goals whose hyphens stay.
 """
 import collections
 import os
@@ -55,8 +55,8 @@ def parts(path, text):
 
 def main():
     check = "--check" in sys.argv
-    if any("Answers.antt" in names for _, _, names in os.walk("crates")):
-        print("this repository has answers already: its names are spelled")
+    if not any("Proof.antt" in names for _, _, names in os.walk("crates")):
+        print("no Proof.antt is here: the names of this repository are spelled already")
         return 2
     texts = {p: open(p, encoding="utf-8").read() for p in files()}
     crates = {p.split("/")[1] for p in texts}
