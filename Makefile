@@ -2,8 +2,8 @@
 .PHONY: help demo test lib install uninstall bench figures fmt
 
 # Where make install puts headers, archive, pkg-config file and man page; DESTDIR stands before it where a package is made.
-PREFIX = /usr/local
-DESTDIR =
+PREFIX ?= /usr/local
+DESTDIR ?=
 export PREFIX DESTDIR
 
 help:

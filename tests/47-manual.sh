@@ -58,8 +58,8 @@ for file in docs/*.[1-9]; do
     if command -v groff >/dev/null; then
         groff -t -man -ww -Tutf8 "$file" 2>"$room/warned" >/dev/null && [ ! -s "$room/warned" ] || fault "$file: groff: $(cat "$room/warned")"
     fi
-    if man -l "$file" >/dev/null 2>&1; then
-        MANWIDTH=80 man --warnings=w -l "$file" 2>"$room/warned" >/dev/null && [ ! -s "$room/warned" ] || fault "$file: man: $(cat "$room/warned")"
+    if LC_ALL=C man --warnings=w -l "$file" >/dev/null 2>&1; then
+        LC_ALL=C MANWIDTH=80 man --warnings=w -l "$file" 2>"$room/warned" >/dev/null && [ ! -s "$room/warned" ] || fault "$file: man: $(cat "$room/warned")"
     fi
 done
 printf '%d functions, %d numbers\n' "$(wc -l <"$room/page")" "$(wc -l <"$room/numbers")"

@@ -82,8 +82,9 @@ boundary() {
             sed -E 's/^uint64_t +//; s/;$//; s/\(void\)/()/; s/(\(|, *)[^,)]*[ *]([a-z_]+)/\1\2/g; s/, */, /g; s/.*/`&`/'
         sed -nE 's/^ *(FIDDLEFERN_(DONE|REFUSAL_[A-Z_]+)) = ([0-9]+),?.*/| \3 | `\1` |/p' include/fiddlefern.h
         sed -nE 's/^ *(FIDDLEFERN_FINDING_[A-Z_]+) = ([0-9]+),?.*/| \2 | `\1` |/p' include/fiddlefern.h
+        sed -nE 's/^#define FIDDLEFERN_VERSION (0x[0-9A-F]{6})$/\1 is version/p' include/fiddlefern.h
     )
-    [ "$count" -ge 22 ] || fault "include/fiddlefern.h: $count exports, numbers and findings were read"
+    [ "$count" -ge 24 ] || fault "include/fiddlefern.h: $count exports, numbers and findings were read"
     printf '%d exports, numbers and findings\n' "$count"
 }
 

@@ -28,7 +28,7 @@ pub enum ParseShapeError {
         /// The letter.
         letter: char,
     },
-    /// The number behind a letter is too large for any machine word.
+    /// The number behind a letter is too large for a `usize`.
     TooLarge {
         /// The letter.
         letter: char,
@@ -68,6 +68,10 @@ impl From<Refusal> for ParseShapeError {
 
 /// Reads what [`Display`] shows, `n=7 r=5 s=1 e=4096`: the four numbers in this order, with white space between
 /// them. The shape is judged as [`Shape::new`] judges it.
+///
+/// # Panics
+///
+/// As [`Shape::new`] does.
 ///
 /// ```
 /// # use fiddlefern::Shape;
