@@ -11,12 +11,12 @@ use Rattle.code.specs.Place.{at}
 use Rattle.code.specs.Layout.{places, line}
 use Rattle.code.specs.LayoutLaws.{layout_within}
 use Rattle.code.specs.Shift.{shift}
-use Rattle.code.proofs.ShiftLaws.{shift_fair}
 use Rattle.element.specs.Gather.{Fits, Tells}
 use Rattle.element.specs.Placed.{Offsets, TellsAt}
 use Rattle.element.specs.PlacedLaws.{offsets_fit, tells_places}
 use Rattle.shape.specs.Limits.{Limits}
 use Rattle.shape.specs.Call.{bytes_of}
+use Rattle.shape.specs.LimitsLaws.{limits_fair}
 use Rattle.lines.specs.Listed.{Listed}
 use Rattle.lines.specs.ListedCount.{listed_count}
 use Rattle.lines.specs.Unbalanced.{unbalanced}
@@ -43,7 +43,7 @@ module _ (n r s e t m : ℕ) (os : List ℕ) (l : Limits n r s e) (lt : t < r + 
 
   pub listed_fit : (b : List ℕ) → length b ≡ bytes_of n r e → Fits b e (take m os)
   listed_fit b z =
-      let F = shift_fair n r s (omega (arith, l.n_low)) in
+      let F = limits_fair n r s _ l in
       offsets_fit b (line (shift n r s) t) (take m os) e (places (shift n r s)) z offsets (λ v lv. (layout_within (shift n r s) F).below t v lt lv)
 
   -- its sum is not zero exactly when it is wrong

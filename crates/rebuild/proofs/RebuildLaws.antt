@@ -7,7 +7,6 @@ use Rattle.code.specs.Place.{strip_of, at}
 use Rattle.code.specs.Layout.{Layout, Fair, height, places}
 use Rattle.code.specs.Sound.{SoundStripe}
 use Rattle.code.specs.Shift.{shift}
-use Rattle.code.proofs.ShiftLaws.{shift_fair}
 use Rattle.code.specs.Lookalikes.{sized_same, decided_stripe}
 use Rattle.shape.specs.declared.refusal.Refusal.{Refusal}
 use Rattle.shape.specs.declared.refusal.Refusal.TheVariants.{NoSound}
@@ -17,6 +16,7 @@ use Rattle.shape.specs.Refusal.{number_of, number_determined}
 use Rattle.shape.specs.Mask.{lost_in}
 use Rattle.shape.specs.Call.{answer_number}
 use Rattle.shape.specs.CallLaws.{done_refused}
+use Rattle.shape.specs.LimitsLaws.{limits_fair}
 use Rattle.rebuild.specs.Rebuild.{last_of, Kept, Agreeable, Mended, Cleared, Rebuilds, Ended, is_mended, is_cleared}
 use Rattle.rebuild.specs.RebuildNumber.{Accepted}
 use Rattle.rebuild.proofs.RebuildNumberLaws.{accepted_number}
@@ -55,7 +55,7 @@ module _ (L : Layout) (e : ℕ) (lost : ℕ → Bool) where
 
 module _ (n r s e mask : ℕ) (b : List ℕ) (k : Accepted n r s e (length b) mask) where
   fair : Fair (shift n r s)
-  fair = shift_fair n r s (omega (arith, k.limits.n_low))
+  fair = limits_fair n r s _ k.limits
 
   pub ended : (a : List ℕ) (x : Answer) → Rebuilds n r s e mask b a x → Ended (shift n r s) e (lost_in mask) b a x
   ended a x w = go x refl (w.answer.is ∙ accepted_number n r s e (length b) mask (last_of x) k)

@@ -16,11 +16,12 @@ use Rattle.code.specs.Walk.{Walk}
 use Rattle.code.specs.StepsLaws.{steps_right, steps_complete}
 use Rattle.code.specs.Stopped.{walk_exact}
 use Rattle.code.specs.Shift.{shift}
-use Rattle.code.proofs.ShiftLaws.{shift_fair, shift_latin}
+use Rattle.code.proofs.ShiftLaws.{shift_latin}
 use Rattle.code.specs.Bound.{Good, wide, narrow}
 use Rattle.shape.specs.Limits.{Limits}
 use Rattle.shape.specs.Map.{Filled, Homes}
 use Rattle.shape.specs.MapLaws.{filled_draws}
+use Rattle.shape.specs.LimitsLaws.{limits_fair}
 use Rattle.rebuild.specs.LostStrips.{pair_decided}
 use Rattle.rebuild.specs.Stepping.{Shaped, data_row, data_diagonal, h_row, v_diagonal}
 use Rattle.rebuild.specs.SteppingLaws.{walk_shaped}
@@ -104,7 +105,7 @@ module _ (m : List (List ℕ)) (h : List ℕ) (L : Layout) (F : Fair L) (x : Dra
 module _ (n r s e : ℕ) (l : Limits n r s e) (g : Good n r s) (m : List (List ℕ)) (h : List ℕ) (f : Filled m n r s) (o : Homes h)
     (a b : ℕ) (le : a ≤ b) (lb : b ≤ n) (w : ℕ → Written) (k : ℕ) where
   fair : Fair (shift n r s)
-  fair = shift_fair n r s (omega (arith, l.n_low))
+  fair = limits_fair n r s _ l
 
   draws : Draws m h (shift n r s)
   draws = filled_draws m h n r s l.n_high f o

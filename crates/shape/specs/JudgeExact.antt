@@ -6,7 +6,6 @@ use Rattle.std.proofs.Common.{sym, ap, ◌∙◌, arith}
 use Rattle.code.specs.Layout.{Layout, Fair, code, pair}
 use Rattle.code.specs.Code.{Fails, Decided}
 use Rattle.code.specs.Shift.{shift}
-use Rattle.code.proofs.ShiftLaws.{shift_fair}
 use Rattle.code.specs.Bound.{Before, FirstPair, Order, first, equal, second}
 use Rattle.code.specs.Bound as bound
 use Rattle.code.proofs.Exact.{exact, good?, good_decided, order}
@@ -18,6 +17,7 @@ use Rattle.shape.specs.Refusal.{lower_of, upper_of, weak_of}
 use Rattle.shape.specs.Limits.{Limits}
 use Rattle.shape.specs.Judge.{judged_number, Judges}
 use Rattle.shape.specs.JudgeLaws.{number_good, number_weak}
+use Rattle.shape.specs.LimitsLaws.{limits_fair}
 
 -- (a, b) is the first pair of strips outside which two different sound stripes of e-byte elements agree
 pub record FirstLookalikes (L : Layout) (e a b : ℕ) : Type 0 where
@@ -28,7 +28,7 @@ pub record FirstLookalikes (L : Layout) (e a b : ℕ) : Type 0 where
 
 module _ (n r s e : ℕ) (l : Limits n r s e) (x : Judged) (j : Judges n r s e x) where
   fair : Fair (shift n r s)
-  fair = shift_fair n r s (omega (arith, l.n_low))
+  fair = limits_fair n r s _ l
 
   fails_alike : (a b : ℕ) → Fails (code (shift n r s)) (pair a b) → Lookalikes (shift n r s) e a b
   fails_alike a b f = lookalikes_of_fails (shift n r s) fair e a b l.e_low f

@@ -1,8 +1,15 @@
--- Laws of the limits: the numbers 1 to 4 are given exactly when their lines hold, and within's answer is determined. Assumes nothing.
+-- Laws of the limits: the numbers 1 to 4 are given exactly when their lines hold, within's answer is determined, and within them the layout is fair. Assumes nothing.
 use Rattle.std.specs.Prelude.{◌≡◌, refl, Bool, true, false, ℕ, ◌-◌, ◌≤◌, ltb}
 use Rattle.std.proofs.Common.{inl, inr, arith, lt-ltb, le-ltb, ltb-true, ltb-false}
+use Rattle.code.specs.Layout.{Fair}
+use Rattle.code.specs.Shift as family
 use Rattle.code.specs.Sum.{pick}
+use Rattle.code.proofs.ShiftLaws.{shift_fair}
 use Rattle.shape.specs.Limits.{Limits, outside, Outside, limit_number, FirstOutside, strips, rows, shift, element, none}
+
+-- within the limits every row meets every diagonal once
+pub limits_fair : (n r s e : ℕ) → Limits n r s e → Fair (family.shift n r s)
+limits_fair n r s e l = shift_fair n r s (omega (arith, l.n_low))
 
 module _ (low high x : ℕ) where
   pub outside_yes : Outside low high x → outside low high x ≡ true

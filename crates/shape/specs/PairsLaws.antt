@@ -6,7 +6,7 @@ use Rattle.code.specs.Drawn.{drawn, Draws}
 use Rattle.code.specs.DrawnLaws.{drawn_fair, drawn_latin, drawn_alike}
 use Rattle.code.specs.Layout.{Layout, Fair, Latin, code, pair}
 use Rattle.code.specs.Shift.{shift}
-use Rattle.code.proofs.ShiftLaws.{shift_fair, shift_latin}
+use Rattle.code.proofs.ShiftLaws.{shift_latin}
 use Rattle.shape.specs.declared.pairs.First.{First}
 use Rattle.shape.specs.declared.pairs.First.TheVariants.{At, Nothing}
 use Rattle.shape.specs.declared.Judged.TheVariants.{Good, Refused}
@@ -17,6 +17,7 @@ use Rattle.shape.specs.MapLaws.{filled_draws}
 use Rattle.shape.specs.Pairs.{MapOf, FirstOf}
 use Rattle.shape.specs.Judge.{Judges}
 use Rattle.shape.specs.JudgeLaws.{judges_weak, judges_good, no_pair_good}
+use Rattle.shape.specs.LimitsLaws.{limits_fair}
 
 module _ (m : List (List ℕ)) (h : List ℕ) (L : Layout) (F : Fair L) (x : Draws m h L) where
   map_of_draws : L.n ≤ 32 → L.r ≤ 32 → Latin L → MapOf m h L.n L.r
@@ -35,7 +36,7 @@ module _ (m : List (List ℕ)) (h : List ℕ) (L : Layout) (F : Fair L) (x : Dra
 
 module _ (g : List (List ℕ)) (h : List ℕ) (n r s e : ℕ) (l : Limits n r s e) where
   fair : Fair (shift n r s)
-  fair = shift_fair n r s (omega (arith, l.n_low))
+  fair = limits_fair n r s _ l
 
   -- a filled map is what the pair judge asks for
   pub shape_map : r ≤ n → Filled g n r s → Homes h → MapOf g h n r

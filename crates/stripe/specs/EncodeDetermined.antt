@@ -1,8 +1,7 @@
 -- What encode answers: how its contract is met, and that it determines the answer and every byte. Assumes nothing.
 use Rattle.std.specs.Prelude.{◌≡◌, refl, List, ℕ, length}
-use Rattle.std.proofs.Common.{sym, ap, ◌∙◌, arith}
+use Rattle.std.proofs.Common.{sym, ap, ◌∙◌}
 use Rattle.code.specs.Shift.{shift}
-use Rattle.code.proofs.ShiftLaws.{shift_fair}
 use Rattle.code.specs.Bound.{Good}
 use Rattle.shape.specs.declared.refusal.Refusal.{Refusal}
 use Rattle.shape.specs.declared.refusal.Answer.{Answer}
@@ -11,6 +10,7 @@ use Rattle.shape.specs.Limits.{Limits}
 use Rattle.shape.specs.JudgedCall.{last_number}
 use Rattle.shape.specs.Call.{bytes_of, answer_number, call_number, Answered}
 use Rattle.shape.specs.CallLaws.{done_refused, answered_same}
+use Rattle.shape.specs.LimitsLaws.{limits_fair}
 use Rattle.stripe.specs.OpenedLaws.{call_zero}
 use Rattle.stripe.specs.Encode.{EncodedFrom, Encodes}
 use Rattle.stripe.specs.EncodeLaws.{encoded_same}
@@ -43,5 +43,5 @@ encode_determined n r s e b a c x y p q = (same, bytes x refl)
     bytes : (z : Answer) → x ≡ z → a ≡ c
     bytes Done w =
         let z = call_zero n r s e (length b) 0 (sym p.answer.is ∙ ap answer_number w) in
-        encoded_same (shift n r s) (shift_fair n r s (omega (arith, z.limits.n_low))) e b a c z.sized (p.done w) (q.done (sym same ∙ w))
+        encoded_same (shift n r s) (limits_fair n r s _ z.limits) e b a c z.sized (p.done w) (q.done (sym same ∙ w))
     bytes (Refused z) w = p.refused z w ∙ sym (q.refused z (sym same ∙ w))

@@ -5,8 +5,8 @@ use Rattle.std.proofs.Common.{sym, ◌∙◌, subst, arith, take_at, length-take
 use Rattle.std.proofs.Math.Decide.{ℕ_discrete}
 use Rattle.std.proofs.Math.Seq.{length_front}
 use Rattle.code.specs.Shift.{shift}
-use Rattle.code.proofs.ShiftLaws.{shift_fair}
 use Rattle.shape.specs.declared.limits.Shape.{Shape}
+use Rattle.shape.specs.LimitsLaws.{limits_fair}
 use Rattle.patch.proofs.WrittenLaws.{written_length}
 use Rattle.stripe.specs.Write.{write_number, written}
 use Rattle.stripe.specs.WriteLaws.{written_sound, written_refused, written_done}
@@ -51,7 +51,7 @@ module _ (h : Shape) (b s : List ℕ) (k : Ready h s) where
       go (no z) = subst (λ (a : List ℕ). Ready h a) (sym (written_refused h.n h.r h.s h.e i j o run s z)) k
       go (yes z) =
           let y = number_accepted h.n h.r h.s h.e (length s) i j o 1 z in
-          let fair = shift_fair h.n h.r h.s (omega (arith, k.limits.n_low)) in
+          let fair = limits_fair h.n h.r h.s _ k.limits in
           subst (λ (a : List ℕ). Ready h a) (sym (written_done h.n h.r h.s h.e i j o run s z))
           (record {
             limits = k.limits;

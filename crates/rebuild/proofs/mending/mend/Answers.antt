@@ -3,10 +3,10 @@ use borrow.Author.Rules.{rules}
 use native.Mathlib.Omega.{arith}
 use Prim.Native.Nat.{ℕ}
 use mathlib.Core.Path.{sym, ap, ◌∙◌}
-use Rattle.code.proofs.ShiftLaws.{shift_fair}
 use Rattle.shape.specs.Mask.{lost_in}
 use Rattle.shape.specs.LostLaws.{first_last, pair_lost}
 use Rattle.shape.specs.MaskEnds.{above_last}
+use Rattle.shape.specs.LimitsLaws.{limits_fair}
 use Rattle.rebuild.specs.LostStrips.{empty_lost}
 use Rattle.rebuild.proofs.PlanRunLaws.{zeros}
 use Rattle.rebuild.proofs.MendLaws.{mends_lost, mends_none}
@@ -18,7 +18,7 @@ unused_zero-requires c =
 
 pub returns-then-mask-eq0 : goal.returns-then-mask-eq0
 returns-then-mask-eq0 c =
-    mends_none _ (shift_fair c.args.shape.n c.args.shape.r c.args.shape.s (omega (arith, c.requires.limits.0.n_low))) _ _
+    mends_none _ (limits_fair c.args.shape.n c.args.shape.r c.args.shape.s _ c.requires.limits.0) _ _
     (λ j. ap (λ (m : ℕ). lost_in m j) ((search rules)) ∙ empty_lost j) c.args.stripe.now _
     (record { size = c.requires.size; bytes = λ v lv. search rules }) (λ t. zeros 64 t) _ c.unused_zero.ensures
 

@@ -1,19 +1,12 @@
 -- `mend_pair` meets its contract: the plan has run, and either every line without a mark sums to zero, or the two strips are cleared. Assumes nothing.
 use borrow.Author.Rules.{rules}
 use native.Mathlib.Omega.{arith}
-use Prim.Native.Nat.{ℕ}
 use mathlib.Core.Path.{refl, sym, ◌∙◌}
-use Rattle.code.specs.Layout.{Fair}
-use Rattle.code.specs.Shift.{shift}
 use Rattle.code.specs.SumLaws.{clash}
-use Rattle.code.proofs.ShiftLaws.{shift_fair}
-use Rattle.shape.specs.Limits.{Limits}
+use Rattle.shape.specs.LimitsLaws.{limits_fair}
 use Rattle.rebuild.proofs.PlanRunLaws.{zeros, ran_size, ran_mended, ran_cleared}
 use Rattle.rebuild.proofs.MendLaws.{both_kept, both_zero}
 use Rattle.rebuild.proofs.mending.mend_pair.Goals as goal
-
-fair : (n r s e : ℕ) → Limits n r s e → Fair (shift n r s)
-fair n r s e l = shift_fair n r s (omega (arith, l.n_low))
 
 pub run-requires : goal.run-requires
 run-requires c =
@@ -21,23 +14,23 @@ run-requires c =
 
 pub unused_zero-requires : goal.unused_zero-requires
 unused_zero-requires c =
-    record { limits = c.requires.limits.0; size = ran_size _ (fair _ _ _ _ c.requires.limits.0) _ _ _ _ _ c.run.ensures ∙ c.requires.size }
+    record { limits = c.requires.limits.0; size = ran_size _ (limits_fair _ _ _ _ c.requires.limits.0) _ _ _ _ _ c.run.ensures ∙ c.requires.size }
 
 pub returns-then-unused_zero : goal.returns-then-unused_zero
 returns-then-unused_zero c =
     record {
-      mended = λ z. ran_mended _ (fair _ _ _ _ c.requires.limits.0) _ _ _ _ _ c.run.ensures (record { size = c.requires.size; bytes = λ v lv. search rules })
+      mended = λ z. ran_mended _ (limits_fair _ _ _ _ c.requires.limits.0) _ _ _ _ _ c.run.ensures (record { size = c.requires.size; bytes = λ v lv. search rules })
           (c.unused_zero.ensures.passed (search rules));
       cleared = λ z. clash (sym z);
     }
 
 pub clear-requires : goal.clear-requires
 clear-requires c =
-    record { limits = c.requires.limits.0; strip = omega arith; size = ran_size _ (fair _ _ _ _ c.requires.limits.0) _ _ _ _ _ c.run.ensures ∙ c.requires.size }
+    record { limits = c.requires.limits.0; strip = omega arith; size = ran_size _ (limits_fair _ _ _ _ c.requires.limits.0) _ _ _ _ _ c.run.ensures ∙ c.requires.size }
 
 pub clear-requires-2 : goal.clear-requires-2
 clear-requires-2 c =
-    record { limits = c.requires.limits.0; strip = omega arith; size = c.clear.ensures.size ∙ ran_size _ (fair _ _ _ _ c.requires.limits.0) _ _ _ _ _ c.run.ensures ∙ c.requires.size }
+    record { limits = c.requires.limits.0; strip = omega arith; size = c.clear.ensures.size ∙ ran_size _ (limits_fair _ _ _ _ c.requires.limits.0) _ _ _ _ _ c.run.ensures ∙ c.requires.size }
 
 pub returns : goal.returns
 returns c =
@@ -46,6 +39,6 @@ returns c =
     let second = c.clear-2.ensures in
     record {
       mended = λ z. clash z;
-      cleared = λ z. ran_cleared _ (fair _ _ _ _ c.requires.limits.0) _ _ _ _ _ c.run.ensures failed.t failed.byte failed.is_line failed.in_element failed.wrong _
+      cleared = λ z. ran_cleared _ (limits_fair _ _ _ _ c.requires.limits.0) _ _ _ _ _ c.run.ensures failed.t failed.byte failed.is_line failed.in_element failed.wrong _
           (both_kept _ _ _ _ _ _ _ first second) (both_zero _ _ _ _ _ _ _ first second);
     }

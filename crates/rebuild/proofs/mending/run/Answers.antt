@@ -2,9 +2,9 @@
 use native.Mathlib.Omega.{arith}
 use mathlib.Core.Path.{refl}
 use Rattle.code.specs.Shift.{shift}
-use Rattle.code.proofs.ShiftLaws.{shift_fair}
 use Rattle.code.specs.DrawnLaws.{drawn_fair}
 use Rattle.shape.specs.MapLaws.{filled_draws}
+use Rattle.shape.specs.LimitsLaws.{limits_fair}
 use Rattle.rebuild.specs.SteppingLaws.{walk_shaped}
 use Rattle.rebuild.specs.WholePlan.{whole_plan}
 use Rattle.rebuild.proofs.mending.run.Goals as goal
@@ -12,7 +12,7 @@ use Rattle.rebuild.proofs.mending.run.Goals as goal
 pub walk-walked-requires : goal.walk-walked-requires
 walk-walked-requires c =
     let l = c.requires.limits.0 in
-    let fair = shift_fair c.args.shape.n c.args.shape.r c.args.shape.s (omega (arith, l.n_low)) in (
+    let fair = limits_fair c.args.shape.n c.args.shape.r c.args.shape.s _ l in (
       record { strips = l.n_high; rows = l.r_high; ordered = omega arith; within = omega arith },
       drawn_fair _ _ (shift c.args.shape.n c.args.shape.r c.args.shape.s) fair
           (filled_draws _ _ c.args.shape.n c.args.shape.r c.args.shape.s l.n_high c.map_of-map.ensures c.homes-home.ensures),

@@ -1,28 +1,22 @@
 -- `worked::unused::line_of` meets its contract: a step of each kind stands inside the shape, and so does its line. Assumes nothing.
-use Rattle.std.proofs.Common.{ℕ, arith}
-use Rattle.code.specs.Layout.{Fair}
-use Rattle.code.specs.Shift.{shift}
-use Rattle.code.proofs.ShiftLaws.{shift_fair}
+use Rattle.std.proofs.Common.{arith}
 use Rattle.walker.specs.Written.{step}
-use Rattle.shape.specs.Limits.{Limits}
+use Rattle.shape.specs.LimitsLaws.{limits_fair}
 use Rattle.rebuild.specs.SteppingLaws.{two_where, four_where, else_where}
 use Rattle.worked.proofs.unused.line_of.Goals as goal
 
-fair : (n r s e : ℕ) → Limits n r s e → Fair (shift n r s)
-fair n r s e l = shift_fair n r s (omega (arith, l.n_low))
-
 pub diagonal-requires : goal.diagonal-requires
 diagonal-requires c =
-    let w = two_where _ (fair _ _ _ _ c.requires.limits) (step c.args.kind c.args.row c.args.strip) c.requires.shaped (omega arith) in record { limits = c.requires.limits; place = (w.0, w.1) }
+    let w = two_where _ (limits_fair _ _ _ _ c.requires.limits) (step c.args.kind c.args.row c.args.strip) c.requires.shaped (omega arith) in record { limits = c.requires.limits; place = (w.0, w.1) }
 
 pub overflow_add-result-then-kind-eq4 : goal.overflow_add-result-then-kind-eq4
 overflow_add-result-then-kind-eq4 c =
-    omega (arith, (four_where _ (fair _ _ _ _ c.requires.limits) (step c.args.kind c.args.row c.args.strip) c.requires.shaped (omega arith)).0)
+    omega (arith, (four_where _ (limits_fair _ _ _ _ c.requires.limits) (step c.args.kind c.args.row c.args.strip) c.requires.shaped (omega arith)).0)
 
 pub returns-then-kind-eq4 : goal.returns-then-kind-eq4
 returns-then-kind-eq4 c =
-    omega (arith, (four_where _ (fair _ _ _ _ c.requires.limits) (step c.args.kind c.args.row c.args.strip) c.requires.shaped (omega arith)).0)
+    omega (arith, (four_where _ (limits_fair _ _ _ _ c.requires.limits) (step c.args.kind c.args.row c.args.strip) c.requires.shaped (omega arith)).0)
 
 pub returns : goal.returns
 returns c =
-    omega (arith, (else_where _ (fair _ _ _ _ c.requires.limits) (step c.args.kind c.args.row c.args.strip) c.requires.shaped (λ q. omega arith) (λ q. omega arith)).below)
+    omega (arith, (else_where _ (limits_fair _ _ _ _ c.requires.limits) (step c.args.kind c.args.row c.args.strip) c.requires.shaped (λ q. omega arith) (λ q. omega arith)).below)
