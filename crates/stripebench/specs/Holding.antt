@@ -11,9 +11,7 @@ use Rattle.stripebench.specs.declared.acting.Current.{Current}
 use Rattle.stripebench.specs.declared.acting.Current.TheVariants.{Unset, Set}
 use Rattle.stripebench.specs.declared.Next.{Next}
 use Rattle.stripebench.specs.declared.Next.TheVariants.{Again, End}
-use Rattle.stripebench.specs.declared.records.Action.{Action}
-use Rattle.stripebench.specs.declared.acting.Acted.{Acted}
-use Rattle.stripebench.specs.Acting.{size_of, Acts}
+use Rattle.stripebench.specs.Acting.{size_of}
 
 -- s is a sound stripe of the good shape h
 pub record Ready (h : Shape) (s : List ℕ) : Type 0 where
@@ -29,11 +27,6 @@ pub record Holds (c : Current) (room : List ℕ) : Type 0 where
 -- so it is before a shape is set
 pub unset_holds : (room : List ℕ) → length room ≡ 32768 → Holds Unset room
 unset_holds room l = record { long = l; ready = λ h m q. absurd (let z : ◌≡◌ {A = ℕ} 0 1 = cc in omega arith) }
-
--- what a record leaves whose reading or printing failed: the room as it was, or as an action on the shape that was set leaves it
-pub data Left (c : Current) (before after : List ℕ) : Type 0 where
-  kept : after ≡ before → Left c before after
-  done : (action : Action) (body : List ℕ) (x : Acted) → Acts action body c before after x → Holds x.current after → Left c before after
 
 -- and after a record
 pub record Follows (x : Next) (room : List ℕ) : Type 0 where

@@ -8,6 +8,7 @@ pub mod RuinLaws
 -- What a record does.
 pub mod Acting
 pub mod Holding
+pub mod Following
 pub mod ReplyLaws
 pub mod CallLaws
 pub mod SetLaws

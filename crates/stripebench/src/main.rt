@@ -11,7 +11,8 @@ mod replies;
 mod ruining;
 
 ghost use Rattle.std.specs.Prelude.{IfOk, OnErr};
-ghost use Rattle.stripebench.specs.Holding.{Holds, Left, Follows};
+ghost use Rattle.stripebench.specs.Following.{Left, Passes};
+ghost use Rattle.stripebench.specs.Holding.{Holds, Follows};
 
 use acting::Current;
 use records::Record;
@@ -25,15 +26,16 @@ pub enum Next {
 }
 
 // Reads one record, does what it says and prints its line. A failed read or write ends the run, as `End` does.
-fn one(
+fn one<R: Read>(
     rt: &impl Print,
-    input: &mut impl Read,
+    input: &mut R,
     current: Current,
     room: &mut [u8],
 ) -> io::Result<Next>
     requires { Holds current room.old }
     ensures ok { IfOk result (λ next. Follows next room.new) }
-    ensures err { OnErr result (Left current room.old room.new) }
+    ensures record { IfOk result (λ next. Passes (R.remaining input.old) (R.remaining input.new) current room.old next room.new) }
+    ensures err { OnErr result (Left (R.remaining input.old) (R.remaining input.new) current room.old room.new) }
 {
     let mut first = [0u8; 1];
     let got = reading::read_full(input, &mut first)?;
