@@ -9,14 +9,7 @@
 #   crates/crate/specs/File.antt or crates/crate/proofs/File.antt. No other word in backticks is looked for.
 set -u
 CDPATH='' cd -P -- "$(dirname -- "${BASH_SOURCE[0]}")/.." || exit 2
-
-room=$(mktemp -d) || exit 2
-trap 'rm -rf "$room"' EXIT
-faults=0
-fault() {
-    printf '%s\n' "$1"
-    faults=$((faults + 1))
-}
+. tests/faults
 
 compiled() { gcc -std=c99 -O2 -Wall -Wextra -pedantic -Werror -Iinclude "$1" target/staticlib/libfiddlefern.a -o "$2"; }
 
@@ -111,4 +104,4 @@ table
 example
 links
 names
-[ "$faults" -eq 0 ] || { printf '%d faults\n' "$faults" && exit 1; }
+ended

@@ -9,14 +9,7 @@
 # - docs/stripe.svg draws each element of case B with its byte.
 set -u
 CDPATH='' cd -P -- "$(dirname -- "${BASH_SOURCE[0]}")/.." || exit 2
-
-room=$(mktemp -d) || exit 2
-trap 'rm -rf "$room"' EXIT
-faults=0
-fault() {
-    printf '%s\n' "$1"
-    faults=$((faults + 1))
-}
+. tests/faults
 
 # The links of the Markdown file $1 that have a #part, outside fenced blocks and backticks.
 parted() {
@@ -140,4 +133,4 @@ boundary
 bound
 stored
 drawn
-[ "$faults" -eq 0 ] || { printf '%d faults\n' "$faults" && exit 1; }
+ended

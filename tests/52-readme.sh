@@ -8,14 +8,7 @@
 # - no text and no example shifts a 1 into a mask of lost strips.
 set -u
 CDPATH='' cd -P -- "$(dirname -- "${BASH_SOURCE[0]}")/.." || exit 2
-
-room=$(mktemp -d) || exit 2
-trap 'rm -rf "$room"' EXIT
-faults=0
-fault() {
-    printf '%s\n' "$1"
-    faults=$((faults + 1))
-}
+. tests/faults
 
 # The fenced block of README.md after `<!-- $1 -->`, in the file $2.
 block() { # MARK FILE
@@ -82,4 +75,4 @@ storage
 crate
 version
 masks
-[ "$faults" -eq 0 ] || { printf '%d faults\n' "$faults" && exit 1; }
+ended
