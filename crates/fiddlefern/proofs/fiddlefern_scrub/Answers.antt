@@ -5,7 +5,10 @@ use Rattle.fiddlefern.proofs.fiddlefern_scrub.Goals as goal
 
 pub packed_count-requires : goal.packed_count-requires
 packed_count-requires c =
-    record { a_bound = (rows_small _ _ _ _ c.args.stripe.now _ c.scrub.ensures _ _ _ c.in-Counted.is, diagonals_small _ _ _ _ c.args.stripe.now _ c.scrub.ensures _ _ _ c.in-Counted.is); finding = finding_small _ _ _ _ c.args.stripe.now _ c.scrub.ensures _ _ _ c.in-Counted.is }
+    record {
+      a_bound = (rows_small _ _ _ _ c.args.stripe.now _ c.scrub.ensures _ _ _ c.in-Counted.is, diagonals_small _ _ _ _ c.args.stripe.now _ c.scrub.ensures _ _ _ c.in-Counted.is);
+      finding = finding_small _ _ _ _ c.args.stripe.now _ c.scrub.ensures _ _ _ c.in-Counted.is;
+    }
 
 pub packed-requires : goal.packed-requires
 packed-requires c =

@@ -29,7 +29,12 @@ returns-then-lost_count-gt2 c =
 pub mend-requires : goal.mend-requires
 mend-requires c =
     let none : above_test c.args.mask c.args.n ≡ false = sym c.above.ensures ∙ search rules in
-    let few : count 64 (lost_in c.args.mask) ≤ 2 = omega (arith, c.lost_count.ensures.is) in record { limits = shape_good _ _ _ _ _ c.args.stripe.now _ c.opened-judged.ensures _ _ c.in-Good.is none few; lost = shape_lost _ _ _ _ _ c.args.stripe.now _ c.opened-judged.ensures _ _ c.in-Good.is none few; size = shape_size _ _ _ _ _ c.args.stripe.now _ c.opened-judged.ensures _ _ c.in-Good.is none few }
+    let few : count 64 (lost_in c.args.mask) ≤ 2 = omega (arith, c.lost_count.ensures.is) in
+    record {
+      limits = shape_good _ _ _ _ _ c.args.stripe.now _ c.opened-judged.ensures _ _ c.in-Good.is none few;
+      lost = shape_lost _ _ _ _ _ c.args.stripe.now _ c.opened-judged.ensures _ _ c.in-Good.is none few;
+      size = shape_size _ _ _ _ _ c.args.stripe.now _ c.opened-judged.ensures _ _ c.in-Good.is none few;
+    }
 
 pub returns-then-mend : goal.returns-then-mend
 returns-then-mend c =

@@ -17,7 +17,12 @@ returns-then-outside c =
 
 pub part-requires : goal.part-requires
 part-requires c =
-    let inside = inside_shape _ _ _ _ c.args.stripe.now _ c.opened-judged.ensures _ _ c.in-Good.is _ _ 0 0 (sym c.outside.ensures ∙ c.if-outside.false) in record { limits = shape_limits _ _ _ _ c.args.stripe.now _ c.opened-judged.ensures _ _ c.in-Good.is; size = shape_size _ _ _ _ c.args.stripe.now _ c.opened-judged.ensures _ _ c.in-Good.is; place = (inside.0, inside.1) }
+    let inside = inside_shape _ _ _ _ c.args.stripe.now _ c.opened-judged.ensures _ _ c.in-Good.is _ _ 0 0 (sym c.outside.ensures ∙ c.if-outside.false) in
+    record {
+      limits = shape_limits _ _ _ _ c.args.stripe.now _ c.opened-judged.ensures _ _ c.in-Good.is;
+      size = shape_size _ _ _ _ c.args.stripe.now _ c.opened-judged.ensures _ _ c.in-Good.is;
+      place = (inside.0, inside.1);
+    }
 
 pub returns : goal.returns
 returns c =

@@ -17,7 +17,11 @@ returns-then-outside c =
 
 pub write_shape-requires : goal.write_shape-requires
 write_shape-requires c =
-    record { limits = shape_limits _ _ _ _ c.args.stripe.now _ c.opened-judged.ensures _ _ c.in-Good.is; size = shape_size _ _ _ _ c.args.stripe.now _ c.opened-judged.ensures _ _ c.in-Good.is; place = inside_shape _ _ _ _ c.args.stripe.now _ c.opened-judged.ensures _ _ c.in-Good.is _ _ _ _ (sym c.outside.ensures ∙ c.if-outside.false) }
+    record {
+      limits = shape_limits _ _ _ _ c.args.stripe.now _ c.opened-judged.ensures _ _ c.in-Good.is;
+      size = shape_size _ _ _ _ c.args.stripe.now _ c.opened-judged.ensures _ _ c.in-Good.is;
+      place = inside_shape _ _ _ _ c.args.stripe.now _ c.opened-judged.ensures _ _ c.in-Good.is _ _ _ _ (sym c.outside.ensures ∙ c.if-outside.false);
+    }
 
 pub returns : goal.returns
 returns c =

@@ -21,7 +21,12 @@ walk-walked-requires c =
 
 pub run_steps-requires : goal.run_steps-requires
 run_steps-requires c =
-    record { limits = c.requires.limits.0; steps = (omega (arith, c.walk-walked.ensures.room, c.requires.limits.0.r_high), walk_shaped _ _ _ _ _ c.walk-walked.ensures); size = c.requires.size; used = c.requires.used }
+    record {
+      limits = c.requires.limits.0;
+      steps = (omega (arith, c.walk-walked.ensures.room, c.requires.limits.0.r_high), walk_shaped _ _ _ _ _ c.walk-walked.ensures);
+      size = c.requires.size;
+      used = c.requires.used;
+    }
 
 pub returns : goal.returns
 returns c =

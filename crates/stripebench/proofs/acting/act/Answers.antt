@@ -26,4 +26,7 @@ returns-in-Unset c =
 
 pub returns-in-Set : goal.returns-in-Set
 returns-in-Set c =
-    record { acts = acts_set _ _ c.in-Stripe.is c.args.body.now c.args.current c.args.room.now _ _ c.in-Set.is c.requires.holds _ _ c.on_stripe-reply.ensures; holds_2 = holds_set _ _ c.in-Stripe.is c.args.body.now c.args.current c.args.room.now _ _ c.in-Set.is c.requires.holds _ _ c.on_stripe-reply.ensures }
+    record {
+      acts = acts_set _ _ c.in-Stripe.is c.args.body.now c.args.current c.args.room.now _ _ c.in-Set.is c.requires.holds _ _ c.on_stripe-reply.ensures;
+      holds_2 = holds_set _ _ c.in-Stripe.is c.args.body.now c.args.current c.args.room.now _ _ c.in-Set.is c.requires.holds _ _ c.on_stripe-reply.ensures;
+    }

@@ -14,7 +14,9 @@ returns-then-a-b c =
 
 pub returns-then-look-eq0-2 : goal.returns-then-look-eq0-2
 returns-then-look-eq0-2 c =
-    record { any = λ m h r li. found_nothing (row_two _ _ li c.requires.1 (omega arith) (omega arith) (unset c.look-then-look-eq0.ensures c.if-look-eq0-2.true) (unset c.look.ensures c.if-look-eq0.true)) }
+    record {
+      any = λ m h r li. found_nothing (row_two _ _ li c.requires.1 (omega arith) (omega arith) (unset c.look-then-look-eq0.ensures c.if-look-eq0-2.true) (unset c.look.ensures c.if-look-eq0.true));
+    }
 
 pub returns-then-look-eq0 : goal.returns-then-look-eq0
 returns-then-look-eq0 c =
