@@ -1,9 +1,8 @@
 -- What the counts find: a wrong rows, the first of them i, and b wrong diagonals, the first of them d. Assumes nothing.
 use Rattle.std.specs.Prelude.{◌≡◌, Bool, ◌⊎◌, List, ℕ, ◌≤◌, eqb}
 use Rattle.std.proofs.Math.Path.{refl}
-use Rattle.std.proofs.Common.{◌∙◌, inl, inr, arith}
+use Rattle.std.proofs.Common.{◌∙◌, inl, inr, arith, eq-eqb, ne_eqb, eqb-true}
 use Rattle.std.proofs.Math.Bool.{true, false}
-use borrow.Author.Tests.{eq-eqb, ne_eqb, eqb-true}
 use Rattle.code.specs.Sum.{pick}
 use Rattle.code.specs.Layout.{Layout}
 use Rattle.finding.specs.declared.Finding.{Finding}

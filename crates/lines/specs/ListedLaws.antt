@@ -2,10 +2,9 @@
 -- h == the rows of a strip, r + 1    os == the table before    us == the table now
 use Rattle.std.specs.Prelude.{◌≡◌, List, ℕ, ◌+◌, ◌-◌, ◌*◌, ◌%◌, ◌≤◌, ◌<◌, length, get_or, set}
 use Rattle.std.proofs.Math.Path.{refl, sym, ap}
-use Rattle.std.proofs.Common.{◌∙◌, subst, add-mul, mul-le-mul, mod-lt, mod-eq_of_lt, zero-mul, le_refl, Fits}
+use Rattle.std.proofs.Common.{◌∙◌, subst, add-mul, mul-le-mul, mod-lt, mod-eq_of_lt, zero-mul, le_refl, Fits, arith}
 use Rattle.std.proofs.Math.Nat.{mod-add-mod, mod_self}
 use Rattle.std.proofs.Math.Decide.{dec_lt}
-use native.Mathlib.Omega.{arith}
 use Rattle.std.specs.Int.{w64}
 use Rattle.code.specs.Circle.{step_cancel}
 use Rattle.code.specs.Place.{place, before}

@@ -1,13 +1,11 @@
 -- Laws of written_over, byte by byte: one data place and its two parities change, and a patch of the whole run leaves just that. Assumes nothing.
-use Rattle.std.specs.Prelude.{◌≡◌, ◌≢◌, ◌⊎◌, Bool, List, [], length, get_or}
+use Rattle.std.specs.Prelude.{◌≡◌, ◌≢◌, ◌⊎◌, Bool, List, [], length, get_or, ◌/◌, ◌%◌}
 use Rattle.std.proofs.Math.Path.{refl, ap₂}
-use Rattle.std.proofs.Common.{sym, ap, ◌∙◌, subst, inl, inr, div-add-mod', arith, ext_get_or}
+use Rattle.std.proofs.Common.{sym, ap, ◌∙◌, subst, inl, inr, div-add-mod', arith, ext_get_or, ℕ, ◌+◌, ◌-◌, ◌*◌, ◌≤◌, ◌<◌, lt-ltb, le-ltb, eq-eqb, ne_eqb}
 use Rattle.std.proofs.Math.Bool.{true, false}
-use Prim.Native.Nat.{ℕ, ◌+◌, ◌-◌, ◌*◌, ◌/◌, ◌%◌, ◌≤◌, ◌<◌}
 use Rattle.std.proofs.Math.Decide.{dec_lt}
 use Rattle.std.proofs.Math.Arith.{digits_div, digits_mod}
 use Rattle.std.proofs.Math.ListN.{get_or-eq_default}
-use borrow.Author.Tests.{lt-ltb, le-ltb, eq-eqb, ne_eqb}
 use Rattle.code.specs.Xor.{◌⊕◌, ⊕_assoc, ⊕_self, ⊕_zero, zero_⊕}
 use Rattle.code.specs.Sum.{pick}
 use Rattle.code.specs.SumLaws.{length_table, get_or_table}

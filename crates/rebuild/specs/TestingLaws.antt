@@ -1,8 +1,8 @@
 -- Laws of the test: one line more, the end, and the line that fails. Assumes nothing.
 use Rattle.std.specs.Prelude.{◌≡◌, true, false, ◌≢◌, List, ℕ, ◌+◌, ◌≤◌, ◌<◌, eqb, get_or}
-use Rattle.std.proofs.Common.{sym, ap, ◌∙◌, not-suc-le-zero, arith, below_more}
+use Rattle.std.proofs.Common.{sym, ap, ◌∙◌, not-suc-le-zero, arith, below_more, eq-eqb, eqb-true}
 use Rattle.std.proofs.Math.Bool.{not}
-use borrow.Author.Tests.{eq-eqb, eqb-true, not-false}
+use Rattle.std.proofs.lemmas.Bool.{not-false}
 use Rattle.code.specs.Sum.{sum}
 use Rattle.code.specs.SumLaws.{clash}
 use Rattle.code.specs.BelowLaws.{Hit, some_none, some_hit}

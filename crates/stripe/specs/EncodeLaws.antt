@@ -1,9 +1,8 @@
 -- Laws of encode: parity after parity, line after line; and its contract leaves no byte open. Assumes nothing.
 use Rattle.std.specs.Prelude.{◌≡◌, refl, List, ℕ, ◌+◌, ◌-◌, ◌*◌, ◌≤◌, ◌<◌, length}
-use Rattle.std.proofs.Common.{sym, ◌∙◌, not-suc-le-zero, arith}
+use Rattle.std.proofs.Common.{sym, ◌∙◌, not-suc-le-zero, arith, below_more}
 use Rattle.std.proofs.Math.Path.{ap}
 use Rattle.std.proofs.Math.ListN.{get_or}
-use borrow.Author.Count.{below_more}
 use Rattle.code.specs.Sum.{sum}
 use Rattle.code.specs.SumLaws.{sum_ext, sum_to_ext}
 use Rattle.code.specs.Place.{at}

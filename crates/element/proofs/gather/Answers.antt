@@ -1,7 +1,5 @@
 -- `gather` meets its contract: block after block and then the tail, each a sum of bytes as they were. Assumes nothing.
-use borrow.Author.Rules.{rules}
-use native.Mathlib.Omega.{arith}
-use mathlib.Core.Path.{◌∙◌}
+use Rattle.std.proofs.Common.{rules, arith, ◌∙◌}
 use Rattle.element.specs.FilledLaws.{filled_none, filled_all}
 use Rattle.element.proofs.GatherLaws.{fits_part, gathered_then}
 use Rattle.element.proofs.gather.Goals as goal

@@ -1,5 +1,5 @@
 -- `gather` meets its contract: block after block and then the tail, each a sum of bytes as they were. Assumes nothing.
-use Prim.Native.Nat.{◌≤◌, ◌-◌}
+use Rattle.std.proofs.Common.{◌≤◌, ◌-◌}
 use Rattle.element.specs.Gather.{Gathered}
 use Rattle.element.proofs.gather.Given as goal
 

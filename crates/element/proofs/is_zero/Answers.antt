@@ -1,7 +1,5 @@
 -- `is_zero` meets its contract: every block passed is zero, the first that is not ends the test, and the tail decides. Assumes nothing.
-use borrow.Author.Rules.{rules}
-use native.Mathlib.Omega.{arith}
-use mathlib.Core.Path.{refl}
+use Rattle.std.proofs.Common.{rules, arith, refl}
 use Rattle.element.proofs.GatherLaws.{fits_part, zero_none, zero_then, tells_yes, tells_no, tells_last}
 use Rattle.element.proofs.is_zero.Goals as goal
 

@@ -1,5 +1,5 @@
 -- `is_zero` meets its contract: every block passed is zero, the first that is not ends the test, and the tail decides. Assumes nothing.
-use Prim.Native.Nat.{◌≤◌, ◌-◌}
+use Rattle.std.proofs.Common.{◌≤◌, ◌-◌}
 use Rattle.element.specs.Gather.{total, Zero}
 use Rattle.element.proofs.is_zero.Given as goal
 

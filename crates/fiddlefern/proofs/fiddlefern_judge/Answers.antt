@@ -1,5 +1,5 @@
 -- `fiddlefern::fiddlefern_judge` meets its contract: it is judge's answer, packed. Assumes nothing.
-use native.Mathlib.Omega.{arith}
+use Rattle.std.proofs.Common.{arith}
 use Rattle.shape.specs.JudgedCall.{refused_small}
 use Rattle.fiddlefern.specs.Exports.{size_fits, answer_good, answer_refused}
 use Rattle.fiddlefern.proofs.fiddlefern_judge.Goals as goal

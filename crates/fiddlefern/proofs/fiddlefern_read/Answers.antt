@@ -1,5 +1,5 @@
 -- `fiddlefern::fiddlefern_read` meets its contract: it is read_check's answer, packed with the element's offset. Assumes nothing.
-use native.Mathlib.Omega.{arith}
+use Rattle.std.proofs.Common.{arith}
 use Rattle.fiddlefern.specs.Exports.{check_small, height_fits, strip_fits, place_fits, offset_fits, read_done, read_refused}
 use Rattle.fiddlefern.proofs.fiddlefern_read.Goals as goal
 

@@ -1,7 +1,5 @@
 -- `found` meets its contract: each pair of counts has its finding. Assumes nothing.
-use native.Mathlib.Omega.{arith}
-use mathlib.Core.Path.{ap, ◌∙◌}
-use mathlib.Core.Logic.{inl, inr}
+use Rattle.std.proofs.Common.{arith, ap, ◌∙◌, inl, inr}
 use Rattle.finding.specs.declared.Finding.TheVariants.{Element}
 use Rattle.finding.proofs.FoundLaws.{found_sound, found_U, found_H, found_element, found_several}
 use Rattle.finding.proofs.found.Goals as goal

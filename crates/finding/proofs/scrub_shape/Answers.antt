@@ -1,5 +1,5 @@
 -- `scrub_shape` meets its contract: the first r lines are the rows, the n after them the diagonals. Assumes nothing.
-use native.Mathlib.Omega.{arith}
+use Rattle.std.proofs.Common.{arith}
 use Rattle.code.specs.Shift.{shift}
 use Rattle.code.proofs.ShiftLaws.{shift_fair}
 use Rattle.finding.proofs.TallyLaws.{tallied_below}

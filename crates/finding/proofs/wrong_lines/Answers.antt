@@ -1,7 +1,5 @@
 -- `wrong_lines` meets its contract: from `left` on the wrong lines are counted, and `first` is the first of them. Assumes nothing.
-use borrow.Author.Rules.{rules}
-use native.Mathlib.Omega.{arith}
-use mathlib.Core.Path.{sym, ◌∙◌}
+use Rattle.std.proofs.Common.{rules, arith, sym, ◌∙◌}
 use Rattle.finding.proofs.TallyLaws.{tallying_none, tallying_yes, tallying_no, tallying_all}
 use Rattle.finding.proofs.wrong_lines.Goals as goal
 

@@ -1,7 +1,5 @@
 -- `wrong_lines` meets its contract: from `left` on the wrong lines are counted, and `first` is the first of them. Assumes nothing.
-use Prim.Native.Nat.{◌+◌}
-use mathlib.Core.Path.{◌≡◌}
-use lib.ListN.{length}
+use Rattle.std.proofs.Common.{◌+◌, ◌≡◌, length}
 use Rattle.code.specs.Layout.{line}
 use Rattle.code.specs.Shift.{shift}
 use Rattle.lines.specs.Unbalanced.{unbalanced}

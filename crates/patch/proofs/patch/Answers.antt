@@ -1,6 +1,5 @@
 -- `patch` meets its contract: old and new bytes added at three places. Assumes nothing.
-use native.Mathlib.Omega.{arith}
-use mathlib.Core.Path.{sym, ◌∙◌}
+use Rattle.std.proofs.Common.{arith, sym, ◌∙◌}
 use Rattle.patch.proofs.PatchLaws.{block_length, patched_fills}
 use Rattle.patch.proofs.patch.Goals as goal
 

@@ -1,5 +1,5 @@
 -- `places` meets its contract: X, H and U of the diagonal. Assumes nothing.
-use mathlib.Core.Path.{ap, ◌∙◌}
+use Rattle.std.proofs.Common.{ap, ◌∙◌}
 use Rattle.code.specs.Layout.{U}
 use Rattle.code.specs.Shift.{shift}
 use Rattle.patch.proofs.places.Goals as goal

@@ -1,7 +1,5 @@
 -- `write_shape` meets its contract: block after block, and what is left, each a patch of three places. Assumes nothing.
-use native.Mathlib.Omega.{arith}
-use mathlib.Core.Path.{◌∙◌}
-use lib.ListN.{length}
+use Rattle.std.proofs.Common.{arith, ◌∙◌, length}
 use Rattle.code.specs.Shift.{shift}
 use Rattle.code.proofs.ShiftLaws.{shift_fair}
 use Rattle.patch.proofs.PatchLaws.{touches_spots, touches_patched, patched_none, patched_more, patched_all}

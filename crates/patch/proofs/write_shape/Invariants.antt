@@ -1,6 +1,5 @@
 -- `write_shape` meets its contract: block after block, and what is left, each a patch of three places. Assumes nothing.
-use Prim.Native.Nat.{◌≤◌, ◌-◌}
-use lib.ListN.{length, get_or}
+use Rattle.std.proofs.Common.{◌≤◌, ◌-◌, length, get_or}
 use Rattle.patch.specs.Patch.{Patched}
 use Rattle.patch.proofs.write_shape.Given as goal
 

@@ -1,9 +1,5 @@
 -- `rebuild::rebuild` meets its contract: see `Call`. Assumes nothing.
-use borrow.Author.Rules.{rules}
-use native.Mathlib.Omega.{arith}
-use Prim.Native.Nat.{◌≤◌}
-use mathlib.Core.Path.{◌≡◌, sym, ◌∙◌}
-use mathlib.Core.Bool.{false}
+use Rattle.std.proofs.Common.{rules, arith, ◌≤◌, ◌≡◌, sym, ◌∙◌, false}
 use Rattle.code.specs.Below.{count}
 use Rattle.shape.specs.Mask.{lost_in, above_test}
 use Rattle.rebuild.proofs.Call.{rebuild_refused, mask_refused, many_refused, shape_good, shape_lost, shape_size, mend_done, mend_none}

@@ -1,6 +1,5 @@
 -- `shape::judge_shape` meets its contract: the bound decides; a shape with r above n - s fails at strips 0 and 1. Assumes nothing.
-use mathlib.Core.Path.{sym, ◌∙◌}
-use native.Mathlib.Omega.{arith}
+use Rattle.std.proofs.Common.{sym, ◌∙◌, arith}
 use Rattle.code.proofs.Exact.{over_first}
 use Rattle.shape.specs.GoodTest.{test_good}
 use Rattle.shape.specs.JudgeLaws.{judges_weak, judges_good}

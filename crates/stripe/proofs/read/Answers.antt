@@ -1,5 +1,5 @@
 -- `stripe::read` meets its contract: see `Calls`. Assumes nothing.
-use mathlib.Core.Path.{sym, ◌∙◌}
+use Rattle.std.proofs.Common.{sym, ◌∙◌}
 use Rattle.stripe.specs.Calls.{shape_limits, shape_size, inside_shape, read_none, read_outside, read_inside}
 use Rattle.stripe.proofs.read.Goals as goal
 

@@ -1,5 +1,5 @@
 -- `stripe::read_check` meets its contract: see `Calls`. Assumes nothing.
-use mathlib.Core.Path.{sym, ◌∙◌}
+use Rattle.std.proofs.Common.{sym, ◌∙◌}
 use Rattle.stripe.specs.Calls.{shape_limits, check_refused, outside_answered, inside_answered}
 use Rattle.stripe.proofs.read_check.Goals as goal
 

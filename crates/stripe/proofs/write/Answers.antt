@@ -1,5 +1,5 @@
 -- `stripe::write` meets its contract: see `Calls`. Assumes nothing.
-use mathlib.Core.Path.{sym, ◌∙◌}
+use Rattle.std.proofs.Common.{sym, ◌∙◌}
 use Rattle.stripe.specs.Calls.{shape_limits, shape_size, inside_shape, write_refused, write_outside, write_done}
 use Rattle.stripe.proofs.write.Goals as goal
 

@@ -1,5 +1,5 @@
 -- `walker::build_h` meets its contract: the H of the rows passed were written down. Assumes nothing.
-use native.Mathlib.Omega.{arith}
+use Rattle.std.proofs.Common.{arith}
 use Rattle.walker.specs.ClosingLaws.{h_kept, h_none, h_more, h_all}
 use Rattle.walker.proofs.build_h.Goals as goal
 

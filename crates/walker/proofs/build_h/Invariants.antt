@@ -1,5 +1,5 @@
 -- `walker::build_h` meets its contract: the H of the rows passed were written down. Assumes nothing.
-use Prim.Native.Nat.{◌-◌, ◌≤◌}
+use Rattle.std.proofs.Common.{◌-◌, ◌≤◌}
 use Rattle.walker.specs.Closing.{WrittenH}
 use Rattle.walker.proofs.build_h.Given as goal
 

@@ -1,7 +1,5 @@
 -- `walker::build_v` meets its contract: each return is a law of `ClosingLaws`. Assumes nothing.
-use mathlib.Core.Logic.{inl, inr}
-use mathlib.Core.Path.{◌∙◌}
-use native.Mathlib.Omega.{arith}
+use Rattle.std.proofs.Common.{inl, inr, ◌∙◌, arith}
 use Rattle.walker.specs.ClosingLaws.{built_v_none, built_v_one, built_v_two}
 use Rattle.walker.proofs.build_v.Goals as goal
 

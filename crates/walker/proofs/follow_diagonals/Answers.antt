@@ -1,5 +1,5 @@
 -- `walker::follow_diagonals` meets its contract: the diagonals passed give nothing, by the laws of `Sweep`. Assumes nothing.
-use native.Mathlib.Omega.{arith}
+use Rattle.std.proofs.Common.{arith}
 use Rattle.walker.specs.Sweep.{diagonal_passed, swept_end}
 use Rattle.walker.proofs.follow_diagonals.Goals as goal
 

@@ -1,5 +1,5 @@
 -- `walker::follow_diagonals` meets its contract: the diagonals passed give nothing, by the laws of `Sweep`. Assumes nothing.
-use Prim.Native.Nat.{◌-◌, ◌≤◌}
+use Rattle.std.proofs.Common.{◌-◌, ◌≤◌}
 use Rattle.code.specs.Layout.{pair}
 use Rattle.code.specs.Drawn.{drawn}
 use Rattle.walker.specs.Sweep.{Swept}

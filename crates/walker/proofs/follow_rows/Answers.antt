@@ -1,5 +1,5 @@
 -- `walker::follow_rows` meets its contract: the rows passed give nothing, by the laws of `Sweep`. Assumes nothing.
-use native.Mathlib.Omega.{arith}
+use Rattle.std.proofs.Common.{arith}
 use Rattle.walker.specs.Sweep.{swept_none, row_passed, swept_end}
 use Rattle.walker.proofs.follow_rows.Goals as goal
 

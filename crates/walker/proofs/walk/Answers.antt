@@ -1,5 +1,5 @@
 -- `walker::walk` meets its contract: it begins with nothing built, and ends with every line passed. Assumes nothing.
-use native.Mathlib.Omega.{arith}
+use Rattle.std.proofs.Common.{arith}
 use Rattle.code.specs.LayoutLaws.{pair_left, pair_right}
 use Rattle.code.specs.Drawn.{drawn}
 use Rattle.walker.specs.Sweep.{begin, h_room, walk_left}

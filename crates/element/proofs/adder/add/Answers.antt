@@ -1,9 +1,5 @@
 -- `add` meets its contract: the bytes of the run are added to the part. Assumes nothing.
-use borrow.Author.Rules.{rules}
-use native.Mathlib.Omega.{arith}
-use Prim.Native.Nat.{ℕ}
-use mathlib.Core.Path.{ap}
-use lib.ListN.{get_or}
+use Rattle.std.proofs.Common.{rules, arith, ℕ, ap, get_or}
 use Rattle.code.specs.Xor.{◌⊕◌}
 use Rattle.element.specs.FilledLaws.{filled_none, filled_more, filled_next, filled_all}
 use Rattle.element.specs.AddedLaws.{added_filled}

@@ -1,6 +1,5 @@
 -- `add` meets its contract: the bytes of the run are added to the part. Assumes nothing.
-use Prim.Native.Nat.{◌≤◌, ◌-◌}
-use lib.ListN.{length, get_or}
+use Rattle.std.proofs.Common.{◌≤◌, ◌-◌, length, get_or}
 use Rattle.code.specs.Xor.{◌⊕◌}
 use Rattle.element.specs.Filled.{Filled}
 use Rattle.element.proofs.adder.add.Given as goal

@@ -1,7 +1,5 @@
 -- `add_at` meets its contract: a part that is lent and comes back stands in its place. Assumes nothing.
-use native.Mathlib.Omega.{arith}
-use Prim.Native.Nat.{◌+◌, ◌-◌}
-use lib.ListN.{length}
+use Rattle.std.proofs.Common.{arith, ◌+◌, ◌-◌, length}
 use Rattle.element.specs.AddedLaws.{added_part}
 use Rattle.element.proofs.adder.add_at.Goals as goal
 

@@ -1,7 +1,5 @@
 -- `delta` meets its contract: old and new bytes added into a local. Assumes nothing.
-use borrow.Author.Rules.{rules}
-use native.Mathlib.Omega.{arith}
-use mathlib.Core.Path.{refl}
+use Rattle.std.proofs.Common.{rules, arith, refl}
 use Rattle.code.specs.Xor.{◌⊕◌}
 use Rattle.element.specs.FilledLaws.{filled_none, filled_more, filled_all}
 use Rattle.element.proofs.adder.delta.Goals as goal

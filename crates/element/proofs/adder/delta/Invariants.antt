@@ -1,6 +1,6 @@
 -- `delta` meets its contract: old and new bytes added into a local. Assumes nothing.
-use Prim.Native.Nat.{◌≤◌, ◌+◌, ◌-◌}
-use lib.ListN.{get_or, replicate}
+use Rattle.std.proofs.Common.{◌≤◌, ◌+◌, ◌-◌, get_or}
+use Rattle.std.specs.Prelude.{replicate}
 use Rattle.code.specs.Xor.{◌⊕◌}
 use Rattle.element.specs.Filled.{Filled}
 use Rattle.element.proofs.adder.delta.Given as goal

@@ -1,7 +1,5 @@
 -- `add_four` meets its contract: four sources are added to the first m bytes of the accumulator. Assumes nothing.
-use borrow.Author.Rules.{rules}
-use native.Mathlib.Omega.{arith}
-use mathlib.Core.Path.{ap}
+use Rattle.std.proofs.Common.{rules, arith, ap}
 use Rattle.code.specs.Xor.{◌⊕◌}
 use Rattle.element.specs.FilledLaws.{filled_none, filled_more, filled_next, filled_all}
 use Rattle.element.specs.Gather.{four}

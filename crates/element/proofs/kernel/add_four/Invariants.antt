@@ -1,6 +1,5 @@
 -- `add_four` meets its contract: four sources are added to the first m bytes of the accumulator. Assumes nothing.
-use Prim.Native.Nat.{◌≤◌, ◌-◌}
-use lib.ListN.{get_or}
+use Rattle.std.proofs.Common.{◌≤◌, ◌-◌, get_or}
 use Rattle.element.specs.Filled.{Filled}
 use Rattle.element.specs.Gather.{four}
 use Rattle.element.proofs.kernel.add_four.Given as goal

@@ -1,8 +1,5 @@
 -- `add_one` meets its contract: one source is added to the first m bytes of the accumulator. Assumes nothing.
-use borrow.Author.Rules.{rules}
-use native.Mathlib.Omega.{arith}
-use Prim.Native.Nat.{ℕ}
-use mathlib.Core.Path.{ap}
+use Rattle.std.proofs.Common.{rules, arith, ℕ, ap}
 use Rattle.code.specs.Xor.{◌⊕◌}
 use Rattle.element.specs.FilledLaws.{filled_none, filled_more, filled_next, filled_all}
 use Rattle.element.specs.Gather.{from}

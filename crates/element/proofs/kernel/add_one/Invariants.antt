@@ -1,6 +1,5 @@
 -- `add_one` meets its contract: one source is added to the first m bytes of the accumulator. Assumes nothing.
-use Prim.Native.Nat.{◌≤◌, ◌-◌}
-use lib.ListN.{get_or}
+use Rattle.std.proofs.Common.{◌≤◌, ◌-◌, get_or}
 use Rattle.code.specs.Xor.{◌⊕◌}
 use Rattle.element.specs.Filled.{Filled}
 use Rattle.element.specs.Gather.{from}

@@ -1,6 +1,5 @@
 -- `any` meets its contract: the or of the bytes passed is zero exactly when they are. Assumes nothing.
-use borrow.Author.Rules.{rules}
-use native.Mathlib.Omega.{arith}
+use Rattle.std.proofs.Common.{rules, arith}
 use Rattle.element.proofs.GatherLaws.{any_none, any_more, any_all}
 use Rattle.element.proofs.kernel.any.Goals as goal
 

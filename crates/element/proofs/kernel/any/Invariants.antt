@@ -1,6 +1,5 @@
 -- `any` meets its contract: the or of the bytes passed is zero exactly when they are. Assumes nothing.
-use Prim.Native.Nat.{◌≤◌, ◌-◌}
-use lib.ListN.{get_or}
+use Rattle.std.proofs.Common.{◌≤◌, ◌-◌, get_or}
 use Rattle.element.specs.Gather.{Any}
 use Rattle.element.proofs.kernel.any.Given as goal
 

@@ -1,7 +1,5 @@
 -- `put` meets its contract: the first m bytes of the accumulator are stored at d. Assumes nothing.
-use borrow.Author.Rules.{rules}
-use native.Mathlib.Omega.{arith}
-use mathlib.Core.Path.{refl}
+use Rattle.std.proofs.Common.{rules, arith, refl}
 use Rattle.element.specs.FilledLaws.{filled_none, filled_more, filled_all}
 use Rattle.element.proofs.kernel.put.Goals as goal
 

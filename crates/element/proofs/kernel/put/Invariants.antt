@@ -1,6 +1,5 @@
 -- `put` meets its contract: the first m bytes of the accumulator are stored at d. Assumes nothing.
-use Prim.Native.Nat.{◌≤◌, ◌-◌}
-use lib.ListN.{get_or}
+use Rattle.std.proofs.Common.{◌≤◌, ◌-◌, get_or}
 use Rattle.element.specs.Filled.{Filled}
 use Rattle.element.proofs.kernel.put.Given as goal
 

@@ -1,6 +1,5 @@
 -- `sum_block` meets its contract: 128 bytes of the sum, four sources a turn and then one by one. Assumes nothing.
-use native.Mathlib.Omega.{arith}
-use Prim.Native.Nat.{ℕ, ◌+◌}
+use Rattle.std.proofs.Common.{arith, ℕ, ◌+◌}
 use Rattle.element.proofs.GatherLaws.{sofar_none, sofar_one, sofar_four, sofar_all}
 use Rattle.element.proofs.kernel.sum_block.Goals as goal
 

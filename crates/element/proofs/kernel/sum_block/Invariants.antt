@@ -1,6 +1,5 @@
 -- `sum_block` meets its contract: 128 bytes of the sum, four sources a turn and then one by one. Assumes nothing.
-use Prim.Native.Nat.{◌-◌}
-use lib.ListN.{length}
+use Rattle.std.proofs.Common.{◌-◌, length}
 use Rattle.element.specs.Sofar.{Sofar}
 use Rattle.element.proofs.kernel.sum_block.Given as goal
 

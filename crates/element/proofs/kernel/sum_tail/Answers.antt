@@ -1,5 +1,5 @@
 -- `sum_tail` meets its contract: the last m bytes of the sum, one source a turn. Assumes nothing.
-use native.Mathlib.Omega.{arith}
+use Rattle.std.proofs.Common.{arith}
 use Rattle.element.proofs.GatherLaws.{sofar_none, sofar_one, sofar_all}
 use Rattle.element.proofs.kernel.sum_tail.Goals as goal
 

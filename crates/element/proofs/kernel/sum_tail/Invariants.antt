@@ -1,6 +1,5 @@
 -- `sum_tail` meets its contract: the last m bytes of the sum, one source a turn. Assumes nothing.
-use Prim.Native.Nat.{◌-◌}
-use lib.ListN.{length}
+use Rattle.std.proofs.Common.{◌-◌, length}
 use Rattle.element.specs.Sofar.{Sofar}
 use Rattle.element.proofs.kernel.sum_tail.Given as goal
 

@@ -1,5 +1,5 @@
 -- `fiddlefern::packing::packed` meets its contract: the three numbers are small. Assumes nothing.
-use native.Mathlib.Omega.{arith}
+use Rattle.std.proofs.Common.{arith}
 use Rattle.shape.specs.Refusal.{refusal_most}
 use Rattle.fiddlefern.proofs.packing.packed.Goals as goal
 

@@ -1,5 +1,5 @@
 -- `fiddlefern::packing::packed_answer` meets its contract, case by case. Assumes nothing.
-use mathlib.Core.Path.{sym, ap, ◌∙◌}
+use Rattle.std.proofs.Common.{sym, ap, ◌∙◌}
 use Rattle.fiddlefern.specs.Packed.{answer_packed}
 use Rattle.fiddlefern.proofs.packing.packed_answer.Goals as goal
 

@@ -1,5 +1,5 @@
 -- `fiddlefern::packing::packed_count` meets its contract: the five numbers are small. Assumes nothing.
-use native.Mathlib.Omega.{arith}
+use Rattle.std.proofs.Common.{arith}
 use Rattle.fiddlefern.specs.ScrubSmall.{finding_most}
 use Rattle.fiddlefern.proofs.packing.packed_count.Goals as goal
 

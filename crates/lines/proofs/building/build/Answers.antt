@@ -1,10 +1,6 @@
 -- `build` meets its contract: a gather over the listed others, the last in the room of the one. Assumes nothing.
-use native.Mathlib.Omega.{arith}
-use mathlib.Core.Path.{refl, sym, ◌∙◌}
-use mathlib.Core.List.{List}
-use Prim.Native.Nat.{ℕ, ◌≤◌}
-use lib.ListN.{length, set, length-set}
-use lib.Seq.{length-take-le}
+use Rattle.std.proofs.Common.{arith, refl, sym, ◌∙◌, List, ℕ, ◌≤◌, length, length-set, length-take-le}
+use Rattle.std.specs.Prelude.{set}
 use Rattle.code.proofs.ShiftLaws.{shift_fair}
 use Rattle.lines.specs.ListedCount.{listed_count}
 use Rattle.lines.specs.BuildLaws.{build_inside, build_fits, build_apart, gathered_builds}

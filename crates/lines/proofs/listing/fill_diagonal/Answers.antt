@@ -1,8 +1,5 @@
 -- `fill_diagonal` meets its contract: the table holds where the diagonal's elements of the rows passed start. Assumes nothing.
-use native.Mathlib.Omega.{arith}
-use native.Mathlib.Nat.{mul-le-mul}
-use Prim.Native.Nat.{ℕ, ◌+◌, ◌-◌, ◌*◌, ◌≤◌}
-use mathlib.Core.Path.{◌∙◌, ap}
+use Rattle.std.proofs.Common.{arith, mul-le-mul, ℕ, ◌+◌, ◌-◌, ◌*◌, ◌≤◌, ◌∙◌, ap}
 use Rattle.lines.specs.ListedLaws.{diagonal_none, diagonal_more, diagonal_all, step_fits, start_small, next_back, next_round}
 use Rattle.lines.proofs.listing.fill_diagonal.Goals as goal
 use Rattle.lines.proofs.listing.fill_diagonal.Goals.{then-back-o, else-back-o}

@@ -1,5 +1,5 @@
 -- `fill_diagonal` meets its contract: the table holds where the diagonal's elements of the rows passed start. Assumes nothing.
-use Prim.Native.Nat.{◌-◌}
+use Rattle.std.proofs.Common.{◌-◌}
 use Rattle.code.specs.Shift.{shift}
 use Rattle.lines.specs.ListedLaws.{DiagonalTo}
 use Rattle.lines.proofs.listing.fill_diagonal.Given as goal

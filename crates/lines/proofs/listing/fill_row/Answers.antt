@@ -1,5 +1,5 @@
 -- `fill_row` meets its contract: the table holds where the row's elements of the strips passed start. Assumes nothing.
-use native.Mathlib.Omega.{arith}
+use Rattle.std.proofs.Common.{arith}
 use Rattle.lines.specs.ListedLaws.{row_none, row_more, row_all, step_fits, next_fits}
 use Rattle.lines.proofs.listing.fill_row.Goals as goal
 

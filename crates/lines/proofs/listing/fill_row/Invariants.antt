@@ -1,5 +1,5 @@
 -- `fill_row` meets its contract: the table holds where the row's elements of the strips passed start. Assumes nothing.
-use Prim.Native.Nat.{◌-◌}
+use Rattle.std.proofs.Common.{◌-◌}
 use Rattle.lines.specs.ListedLaws.{RowTo}
 use Rattle.lines.proofs.listing.fill_row.Given as goal
 

@@ -1,5 +1,5 @@
 -- `line` meets its contract: a row, or a diagonal. Assumes nothing.
-use native.Mathlib.Omega.{arith}
+use Rattle.std.proofs.Common.{arith}
 use Rattle.lines.specs.ListedLaws.{listed_at}
 use Rattle.lines.proofs.listing.line.Goals as goal
 

@@ -1,6 +1,5 @@
 -- `place` meets its contract: the place is one of the stripe's, and its number fits. Assumes nothing.
-use native.Mathlib.Omega.{arith}
-use mathlib.Core.Path.{refl}
+use Rattle.std.proofs.Common.{arith, refl}
 use Rattle.shape.specs.Answers.{places_most}
 use Rattle.lines.specs.ListedLaws.{place_stored}
 use Rattle.lines.proofs.listing.place.Goals as goal

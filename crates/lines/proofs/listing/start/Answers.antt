@@ -1,7 +1,5 @@
 -- `start` meets its contract: where an element starts fits. Assumes nothing.
-use native.Mathlib.Omega.{arith}
-use mathlib.Core.Path.{ap}
-use Prim.Native.Nat.{ℕ, ◌*◌}
+use Rattle.std.proofs.Common.{arith, ap, ℕ, ◌*◌}
 use Rattle.code.specs.Place.{inside}
 use Rattle.shape.specs.Answers.{bytes_most}
 use Rattle.lines.proofs.listing.start.Goals as goal

@@ -1,7 +1,5 @@
 -- `clear` meets its contract: the strip is one run of bytes, and it fits. Assumes nothing.
-use native.Mathlib.Omega.{arith}
-use native.Mathlib.Nat.{mul-le-mul}
-use Prim.Native.Nat.{◌+◌, ◌≤◌}
+use Rattle.std.proofs.Common.{arith, mul-le-mul, ◌+◌, ◌≤◌}
 use Rattle.shape.specs.Answers.{bytes_most}
 use Rattle.rebuild.specs.ClearLaws.{clear_inside, filled_clears}
 use Rattle.rebuild.proofs.clearing.clear.Goals as goal

@@ -1,7 +1,5 @@
 -- `fill` meets its contract: the first t of the m bytes are the value. Assumes nothing.
-use borrow.Author.Rules.{rules}
-use native.Mathlib.Omega.{arith}
-use mathlib.Core.Path.{refl}
+use Rattle.std.proofs.Common.{rules, arith, refl}
 use Rattle.element.specs.FilledLaws.{filled_none, filled_more, filled_all}
 use Rattle.rebuild.proofs.clearing.fill.Goals as goal
 

@@ -1,5 +1,5 @@
 -- `fill` meets its contract: the first t of the m bytes are the value. Assumes nothing.
-use Prim.Native.Nat.{◌≤◌, ◌-◌}
+use Rattle.std.proofs.Common.{◌≤◌, ◌-◌}
 use Rattle.element.specs.Filled.{Filled}
 use Rattle.rebuild.proofs.clearing.fill.Given as goal
 

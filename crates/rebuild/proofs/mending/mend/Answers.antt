@@ -1,8 +1,5 @@
 -- `mend` meets its contract: an empty mask needs a test alone, and another's first and last lost strip are the pair that it loses. Assumes nothing.
-use borrow.Author.Rules.{rules}
-use native.Mathlib.Omega.{arith}
-use Prim.Native.Nat.{ℕ}
-use mathlib.Core.Path.{sym, ap, ◌∙◌}
+use Rattle.std.proofs.Common.{rules, arith, ℕ, sym, ap, ◌∙◌}
 use Rattle.shape.specs.Mask.{lost_in}
 use Rattle.shape.specs.LostLaws.{first_last, pair_lost}
 use Rattle.shape.specs.MaskEnds.{above_last}

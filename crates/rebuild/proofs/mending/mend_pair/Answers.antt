@@ -1,7 +1,5 @@
 -- `mend_pair` meets its contract: the plan has run, and either every line without a mark sums to zero, or the two strips are cleared. Assumes nothing.
-use borrow.Author.Rules.{rules}
-use native.Mathlib.Omega.{arith}
-use mathlib.Core.Path.{refl, sym, ◌∙◌}
+use Rattle.std.proofs.Common.{rules, arith, refl, sym, ◌∙◌}
 use Rattle.code.specs.SumLaws.{clash}
 use Rattle.shape.specs.LimitsLaws.{limits_fair}
 use Rattle.rebuild.proofs.PlanRunLaws.{zeros, ran_size, ran_mended, ran_cleared}

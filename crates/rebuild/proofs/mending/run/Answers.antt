@@ -1,6 +1,5 @@
 -- `run` meets its contract: on a good shape the walk leaves nothing, and its steps are a right and complete plan. Assumes nothing.
-use native.Mathlib.Omega.{arith}
-use mathlib.Core.Path.{refl}
+use Rattle.std.proofs.Common.{arith, refl}
 use Rattle.code.specs.Shift.{shift}
 use Rattle.code.specs.DrawnLaws.{drawn_fair}
 use Rattle.shape.specs.MapLaws.{filled_draws}

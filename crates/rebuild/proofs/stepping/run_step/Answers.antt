@@ -1,7 +1,5 @@
 -- `run_step` meets its contract: for each kind, the target's place on the line that it uses is built. Assumes nothing.
-use native.Mathlib.Omega.{arith}
-use Prim.Native.Nat.{ℕ, ◌+◌}
-use mathlib.Core.Path.{sym, subst}
+use Rattle.std.proofs.Common.{arith, ℕ, ◌+◌, sym, subst}
 use Rattle.code.specs.Shift.{shift}
 use Rattle.walker.specs.Written.{step}
 use Rattle.shape.specs.LimitsLaws.{limits_fair}

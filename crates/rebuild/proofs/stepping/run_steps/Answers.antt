@@ -1,10 +1,5 @@
 -- `run_steps` meets its contract: after k turns the first k steps have run, and their lines are marked. Assumes nothing.
-use borrow.Author.Rules.{rules}
-use native.Mathlib.Omega.{arith}
-use Prim.Native.Nat.{ℕ, ◌+◌, ◌*◌}
-use mathlib.Core.Path.{◌≡◌, sym, ap₂, ◌∙◌, subst}
-use mathlib.Core.List.{List}
-use lib.ListN.{get_or}
+use Rattle.std.proofs.Common.{rules, arith, ℕ, ◌+◌, ◌*◌, ◌≡◌, sym, ap₂, ◌∙◌, subst, List, get_or}
 use Rattle.code.specs.Shift.{shift}
 use Rattle.walker.specs.Written.{step, written}
 use Rattle.rebuild.specs.Stepping.{Shaped}

@@ -1,7 +1,5 @@
 -- `run_steps` meets its contract: after k turns the first k steps have run, and their lines are marked. Assumes nothing.
-use Prim.Native.Nat.{◌≤◌, ◌-◌}
-use mathlib.Core.Path.{◌≡◌}
-use lib.ListN.{length}
+use Rattle.std.proofs.Common.{◌≤◌, ◌-◌, ◌≡◌, length}
 use Rattle.code.specs.Shift.{shift}
 use Rattle.walker.specs.Written.{written}
 use Rattle.rebuild.specs.Running.{Running}

@@ -1,8 +1,5 @@
 -- `unused_zero` meets its contract: the unused ones of the first t lines sum to zero. Assumes nothing.
-use borrow.Author.Rules.{rules}
-use native.Mathlib.Omega.{arith}
-use mathlib.Core.Path.{sym, ap, ◌∙◌}
-use lib.ListN.{length}
+use Rattle.std.proofs.Common.{rules, arith, sym, ap, ◌∙◌, length}
 use Rattle.rebuild.specs.TestingLaws.{passed_none, passed_used, passed_right, passed_tests, wrong_tests}
 use Rattle.rebuild.proofs.testing.unused_zero.Goals as goal
 use Rattle.rebuild.proofs.testing.unused_zero.Goals.{then-unused+else-wrong_line, else-unused}

@@ -1,7 +1,5 @@
 -- `unused_zero` meets its contract: the unused ones of the first t lines sum to zero. Assumes nothing.
-use Prim.Native.Nat.{◌≤◌, ◌-◌}
-use mathlib.Core.Path.{◌≡◌}
-use lib.ListN.{length}
+use Rattle.std.proofs.Common.{◌≤◌, ◌-◌, ◌≡◌, length}
 use Rattle.code.specs.Shift.{shift}
 use Rattle.rebuild.specs.Testing.{Passed}
 use Rattle.rebuild.proofs.testing.unused_zero.Given as goal

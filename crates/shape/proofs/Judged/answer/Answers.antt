@@ -1,5 +1,5 @@
 -- `shape::Judged::answer` meets its contract, case by case. Assumes nothing.
-use mathlib.Core.Path.{sym, ap}
+use Rattle.std.proofs.Common.{sym, ap}
 use Rattle.shape.specs.Judge.{judged_answer}
 use Rattle.shape.proofs.Judged.answer.Goals as goal
 

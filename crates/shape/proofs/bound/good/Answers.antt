@@ -1,5 +1,5 @@
 -- `good` meets its contract: the tests are those of the bound. Assumes nothing.
-use borrow.Author.Tests.{lt-ltb, le-ltb}
+use Rattle.std.proofs.Common.{lt-ltb, le-ltb}
 use Rattle.shape.proofs.bound.good.Goals as goal
 
 pub returns-then-wide : goal.returns-then-wide

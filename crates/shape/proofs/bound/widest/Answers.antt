@@ -1,10 +1,6 @@
 -- `widest` meets its contract: the table is q's, every entry computed. Assumes nothing.
-use native.Mathlib.Omega.{arith}
-use native.Mathlib.Nat.{div-le_self}
-use Prim.Native.Nat.{ℕ, ◌<◌, ◌≤◌}
-use mathlib.Core.Path.{◌≡◌, refl, ap, ◌∙◌}
-use mathlib.Core.List.{List, [], ◌∷◌}
-use lib.ListN.{get_or}
+use Rattle.std.proofs.Common.{arith, ℕ, ◌<◌, ◌≤◌, ◌≡◌, refl, ap, ◌∙◌, List, [], ◌∷◌, get_or}
+use Rattle.std.proofs.Math.Nat.{div-le_self}
 use Rattle.code.specs.Sum.{table}
 use Rattle.code.specs.SumLaws.{get_or_table}
 use Rattle.code.specs.Bound.{q, pr, searched}

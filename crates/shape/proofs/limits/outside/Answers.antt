@@ -1,5 +1,5 @@
 -- `outside` meets its contract. Assumes nothing.
-use borrow.Author.Tests.{lt-ltb, le-ltb}
+use Rattle.std.proofs.Common.{lt-ltb, le-ltb}
 use Rattle.shape.proofs.limits.outside.Goals as goal
 
 pub returns-then-x-low : goal.returns-then-x-low

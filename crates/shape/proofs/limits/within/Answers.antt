@@ -1,6 +1,5 @@
 -- `within` meets its contract: each test passed decides one line of the number. Assumes nothing.
-use native.Mathlib.Omega.{arith}
-use mathlib.Core.Path.{sym, ◌∙◌}
+use Rattle.std.proofs.Common.{arith, sym, ◌∙◌}
 use Rattle.shape.specs.declared.refusal.Refusal.TheVariants.{Strips, Rows, Shift, Element}
 use Rattle.shape.specs.LimitsLaws.{outside_false}
 use Rattle.shape.specs.WithinLaws.{within_refused, within_inside}

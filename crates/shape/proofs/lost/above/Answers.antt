@@ -1,6 +1,6 @@
 -- `above` meets its contract, by the leading zeros. Assumes nothing.
-use native.Mathlib.Omega.{arith}
-use lib.Count.{leading_le}
+use Rattle.std.proofs.Common.{arith}
+use Rattle.std.proofs.lemmas.Nat.{leading_le}
 use Rattle.shape.specs.MaskEnds.{leading_above}
 use Rattle.shape.proofs.lost.above.Goals as goal
 

@@ -1,6 +1,6 @@
 -- `first_lost` meets its contract, by the trailing zeros. Assumes nothing.
-use native.Mathlib.Omega.{arith}
-use lib.Count.{trailing_le}
+use Rattle.std.proofs.Common.{arith}
+use Rattle.std.proofs.lemmas.Nat.{trailing_le}
 use Rattle.shape.specs.MaskEnds.{trailing_first}
 use Rattle.shape.proofs.lost.first_lost.Goals as goal
 

@@ -1,5 +1,5 @@
 -- `last_lost` meets its contract, by the leading zeros. Assumes nothing.
-use native.Mathlib.Omega.{arith}
+use Rattle.std.proofs.Common.{arith}
 use Rattle.shape.specs.MaskEnds.{leading_most, leading_last}
 use Rattle.shape.proofs.lost.last_lost.Goals as goal
 

@@ -1,6 +1,6 @@
 -- `lost_count` meets its contract: each one is a lost strip. Assumes nothing.
-use native.Mathlib.Omega.{arith}
-use lib.Count.{ones-le}
+use Rattle.std.proofs.Common.{arith}
+use Rattle.std.proofs.lemmas.Nat.{ones-le}
 use Rattle.shape.specs.MaskLaws.{ones_count}
 use Rattle.shape.proofs.lost.lost_count.Goals as goal
 

@@ -1,5 +1,5 @@
 -- `map_of` meets its contract: the rows passed are filled, and d starts the next. Assumes nothing.
-use native.Mathlib.Omega.{arith}
+use Rattle.std.proofs.Common.{arith}
 use Rattle.shape.specs.MapLaws.{fill_begin, fill_more, filled}
 use Rattle.shape.proofs.map.map_of.Goals as goal
 

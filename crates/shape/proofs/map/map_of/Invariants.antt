@@ -1,5 +1,5 @@
 -- `map_of` meets its contract: the rows passed are filled, and d starts the next. Assumes nothing.
-use Prim.Native.Nat.{◌≤◌, ◌-◌}
+use Rattle.std.proofs.Common.{◌≤◌, ◌-◌}
 use Rattle.shape.specs.MapLaws.{Filling}
 use Rattle.shape.proofs.map.map_of.Given as goal
 

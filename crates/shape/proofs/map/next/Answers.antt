@@ -1,8 +1,7 @@
 -- `next` meets its contract: the remainder without a division. Assumes nothing.
-use native.Mathlib.Omega.{arith}
-use native.Mathlib.Nat.{mod-eq_of_lt, mod_self}
-use Prim.Native.Nat.{ℕ, ◌+◌, ◌%◌}
-use mathlib.Core.Path.{◌≡◌, ap, sym, ◌∙◌}
+use Rattle.std.proofs.Common.{arith, mod-eq_of_lt, ℕ, ◌+◌, ◌≡◌, ap, sym, ◌∙◌}
+use Rattle.std.proofs.Math.Nat.{mod_self}
+use Rattle.std.specs.Prelude.{◌%◌}
 use Rattle.shape.proofs.map.next.Goals as goal
 
 round : (d n : ℕ) → d + 1 ≡ n → 0 ≡ (d + 1) % n

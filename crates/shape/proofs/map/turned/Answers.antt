@@ -1,5 +1,5 @@
 -- `turned` meets its contract: the entries passed are set, and x is the next. Assumes nothing.
-use native.Mathlib.Omega.{arith}
+use Rattle.std.proofs.Common.{arith}
 use Rattle.shape.specs.MapLaws.{turn_begin, turn_more}
 use Rattle.shape.proofs.map.turned.Goals as goal
 

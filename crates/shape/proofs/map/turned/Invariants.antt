@@ -1,5 +1,5 @@
 -- `turned` meets its contract: the entries passed are set, and x is the next. Assumes nothing.
-use Prim.Native.Nat.{◌≤◌, ◌-◌}
+use Rattle.std.proofs.Common.{◌≤◌, ◌-◌}
 use Rattle.shape.specs.MapLaws.{Turning}
 use Rattle.shape.proofs.map.turned.Given as goal
 

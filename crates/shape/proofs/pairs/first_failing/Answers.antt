@@ -1,5 +1,5 @@
 -- `shape::pairs::first_failing` meets its contract: every pair passed is decided by the rest. Assumes nothing.
-use native.Mathlib.Omega.{arith}
+use Rattle.std.proofs.Common.{arith}
 use Rattle.shape.specs.Pairs.{passed_start, passed_turn, passed_next, passed_row, passed_first, passed_all}
 use Rattle.shape.proofs.pairs.first_failing.Goals as goal
 

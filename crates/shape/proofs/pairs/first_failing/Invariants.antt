@@ -1,5 +1,5 @@
 -- `shape::pairs::first_failing` meets its contract: every pair passed is decided by the rest. Assumes nothing.
-use Prim.Native.Nat.{◌+◌, ◌-◌, ◌<◌, ◌≤◌}
+use Rattle.std.proofs.Common.{◌+◌, ◌-◌, ◌<◌, ◌≤◌}
 use Rattle.code.specs.Drawn.{drawn}
 use Rattle.shape.specs.Pairs.{Passed}
 use Rattle.shape.proofs.pairs.first_failing.Given as goal

@@ -1,7 +1,5 @@
 -- `encode_shape` meets its contract: the data is as at entry, and every line passed sums to zero. Assumes nothing.
-use borrow.Author.Rules.{rules}
-use native.Mathlib.Omega.{arith}
-use mathlib.Core.Path.{◌∙◌}
+use Rattle.std.proofs.Common.{rules, arith, ◌∙◌}
 use Rattle.code.proofs.ShiftLaws.{shift_fair}
 use Rattle.stripe.specs.ParityLaws.{last_within}
 use Rattle.stripe.specs.EncodeLaws.{encoded_none, encoded_more, encoded_all}

@@ -1,7 +1,5 @@
 -- `encode_shape` meets its contract: the data is as at entry, and every line passed sums to zero. Assumes nothing.
-use Prim.Native.Nat.{◌+◌, ◌-◌}
-use mathlib.Core.Path.{◌≡◌}
-use lib.ListN.{length}
+use Rattle.std.proofs.Common.{◌+◌, ◌-◌, ◌≡◌, length}
 use Rattle.code.specs.Shift.{shift}
 use Rattle.stripe.specs.EncodeLaws.{EncodedTo}
 use Rattle.stripe.proofs.encoding.encode_shape.Given as goal

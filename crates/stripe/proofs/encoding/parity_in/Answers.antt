@@ -1,5 +1,5 @@
 -- `parity_in` meets its contract: a row has n places before its parity, a diagonal r. Assumes nothing.
-use native.Mathlib.Omega.{arith}
+use Rattle.std.proofs.Common.{arith}
 use Rattle.code.specs.Shift.{shift}
 use Rattle.stripe.specs.ParityLaws.{row_last, diagonal_last}
 use Rattle.stripe.proofs.encoding.parity_in.Goals as goal

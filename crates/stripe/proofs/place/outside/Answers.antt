@@ -1,8 +1,5 @@
 -- `outside` meets its contract: each test decides its part of line 9, and the sum fits. Assumes nothing.
-use borrow.Author.Tests.{lt-ltb}
-use native.Mathlib.Omega.{arith}
-use Prim.Native.Nat.{◌+◌}
-use mathlib.Core.Path.{sym, ◌∙◌}
+use Rattle.std.proofs.Common.{lt-ltb, arith, ◌+◌, sym, ◌∙◌}
 use Rattle.stripe.specs.WriteNumber.{outside_row, outside_strip, outside_run}
 use Rattle.stripe.proofs.place.outside.Goals as goal
 

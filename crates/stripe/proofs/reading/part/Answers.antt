@@ -1,5 +1,5 @@
 -- `part` meets its contract: the part lies inside the stripe, and is the element. Assumes nothing.
-use native.Mathlib.Omega.{arith}
+use Rattle.std.proofs.Common.{arith}
 use Rattle.code.specs.Shift.{shift}
 use Rattle.stripe.specs.ReadLaws.{part_inside, part_is}
 use Rattle.stripe.proofs.reading.part.Goals as goal

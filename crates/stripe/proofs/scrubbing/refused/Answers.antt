@@ -1,5 +1,5 @@
 -- `stripe::scrubbing::refused` meets its contract, case by case. Assumes nothing.
-use mathlib.Core.Path.{sym, ap}
+use Rattle.std.proofs.Common.{sym, ap}
 use Rattle.stripe.specs.Scrub.{uncounted}
 use Rattle.stripe.proofs.scrubbing.refused.Goals as goal
 

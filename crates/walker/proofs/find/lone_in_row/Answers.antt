@@ -1,5 +1,5 @@
 -- `walker::find::lone_in_row` meets its contract: each return is a law of `SearchLaws`. Assumes nothing.
-use native.Mathlib.Omega.{arith}
+use Rattle.std.proofs.Common.{arith}
 use Rattle.walker.specs.Flags.{unset, is_set}
 use Rattle.walker.specs.SearchLaws.{found_at, found_nothing, row_dead, row_single, row_b, row_a, row_two, row_none}
 use Rattle.walker.proofs.find.lone_in_row.Goals as goal

@@ -1,6 +1,5 @@
 -- `walker::find::lone_on_diagonal` meets its contract: each return is a law of `SearchLaws`. Assumes nothing.
-use mathlib.Core.Logic.{inl, inr}
-use native.Mathlib.Omega.{arith}
+use Rattle.std.proofs.Common.{inl, inr, arith}
 use Rattle.walker.specs.SearchLaws.{found_at, found_nothing, on_lost, on_kept, diagonal_dead, diagonal_none, diagonal_one, diagonal_two}
 use Rattle.walker.proofs.find.lone_on_diagonal.Goals as goal
 

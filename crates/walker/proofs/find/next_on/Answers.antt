@@ -1,5 +1,5 @@
 -- `walker::find::next_on` meets its contract: every lost element of the diagonal in the rows passed is flagged. Assumes nothing.
-use native.Mathlib.Omega.{arith}
+use Rattle.std.proofs.Common.{arith}
 use Rattle.code.specs.LayoutLaws.{pair_left, pair_right}
 use Rattle.walker.specs.SearchLaws.{next_at, next_nothing, passed_none, passed_end, passed_more, passed_at}
 use Rattle.walker.proofs.find.next_on.Goals as goal

@@ -1,5 +1,5 @@
 -- `walker::find::next_on` meets its contract: every lost element of the diagonal in the rows passed is flagged. Assumes nothing.
-use Prim.Native.Nat.{◌-◌, ◌≤◌}
+use Rattle.std.proofs.Common.{◌-◌, ◌≤◌}
 use Rattle.code.specs.Layout.{pair}
 use Rattle.code.specs.Drawn.{cell}
 use Rattle.walker.specs.Search.{Passed}

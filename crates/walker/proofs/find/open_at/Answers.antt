@@ -1,6 +1,5 @@
 -- `walker::find::open_at` meets its contract: each return is a law of `SearchLaws`. Assumes nothing.
-use mathlib.Core.Path.{sym, ◌∙◌}
-use native.Mathlib.Omega.{arith}
+use Rattle.std.proofs.Common.{sym, ◌∙◌, arith}
 use Rattle.walker.specs.SearchLaws.{open_no, open_test}
 use Rattle.walker.proofs.find.open_at.Goals as goal
 

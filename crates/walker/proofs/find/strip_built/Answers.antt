@@ -1,7 +1,5 @@
 -- `walker::find::strip_built` meets its contract: the rows passed are flagged. Assumes nothing.
-use mathlib.Core.Path.{sym}
-use native.Mathlib.Omega.{arith}
-use borrow.Author.Count.{below_more}
+use Rattle.std.proofs.Common.{sym, arith, below_more}
 use Rattle.code.specs.SumLaws.{clash}
 use Rattle.walker.specs.Flags.{unset, is_set}
 use Rattle.walker.proofs.find.strip_built.Goals as goal

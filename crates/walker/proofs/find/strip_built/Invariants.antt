@@ -1,5 +1,5 @@
 -- `walker::find::strip_built` meets its contract: the rows passed are flagged. Assumes nothing.
-use Prim.Native.Nat.{ℕ, ◌-◌, ◌<◌, ◌≤◌}
+use Rattle.std.proofs.Common.{ℕ, ◌-◌, ◌<◌, ◌≤◌}
 use Rattle.walker.specs.Flags.{Marked}
 use Rattle.walker.proofs.find.strip_built.Given as goal
 

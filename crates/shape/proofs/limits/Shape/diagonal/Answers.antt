@@ -1,7 +1,5 @@
 -- `diagonal` meets its contract: nothing overflows, and the difference does not fall below zero. Assumes nothing.
-use native.Mathlib.Omega.{arith}
-use native.Mathlib.Nat.{mod-lt}
-use mathlib.Core.Path.{refl}
+use Rattle.std.proofs.Common.{arith, mod-lt, refl}
 use Rattle.code.specs.Shift as shift
 use Rattle.shape.specs.Answers.{front_most, front_enough}
 use Rattle.shape.proofs.limits.Shape.diagonal.Goals as goal

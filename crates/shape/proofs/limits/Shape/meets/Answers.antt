@@ -1,7 +1,5 @@
 -- `meets` meets its contract. Assumes nothing.
-use native.Mathlib.Omega.{arith}
-use native.Mathlib.Nat.{mod-lt}
-use mathlib.Core.Path.{refl}
+use Rattle.std.proofs.Common.{arith, mod-lt, refl}
 use Rattle.code.specs.Shift as shift
 use Rattle.shape.proofs.limits.Shape.meets.Goals as goal
 

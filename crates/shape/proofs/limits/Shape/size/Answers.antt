@@ -1,6 +1,5 @@
 -- `size` meets its contract: the size of a stripe fits. Assumes nothing.
-use native.Mathlib.Omega.{arith}
-use mathlib.Core.Path.{refl}
+use Rattle.std.proofs.Common.{arith, refl}
 use Rattle.shape.specs.Answers.{places_most, bytes_most}
 use Rattle.shape.proofs.limits.Shape.size.Goals as goal
 
