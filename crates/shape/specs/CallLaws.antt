@@ -1,18 +1,16 @@
 -- Laws of a call's answer: the number and the shape determine it. Assumes nothing.
-use Rattle.std.specs.Prelude.{◌≡◌, refl, ℕ}
+use Rattle.std.specs.Prelude.{◌≡◌, refl, ℕ, Ok, Err}
 use Rattle.std.proofs.Common.{sym, ap, ◌∙◌, arith}
 use Rattle.std.proofs.Math.Decide.{ℕ_discrete}
 use Rattle.code.specs.Shift.{shift}
 use Rattle.code.proofs.Exact.{first_one}
 use Rattle.shape.specs.declared.refusal.Refusal.{Refusal}
 use Rattle.shape.specs.declared.refusal.Refusal.TheVariants.{Weak}
-use Rattle.shape.specs.declared.refusal.Answer.{Answer}
-use Rattle.shape.specs.declared.refusal.Answer.TheVariants.{Done, Refused}
 use Rattle.shape.specs.Refusal.{number_of, lower_of, upper_of, refusal_some, number_determined, weak_of}
-use Rattle.shape.specs.Call.{Named, Answered}
+use Rattle.shape.specs.Call.{Named, Answer, Answered}
 
 -- an answer is not both
-pub done_refused : {A : Type 0} (y : Refusal) → ◌≡◌ {A = Answer} Done (Refused y) → A
+pub done_refused : {A : Type 0} (y : Refusal) → ◌≡◌ {A = Answer} (Ok tt) (Err y) → A
 done_refused y q = absurd (let z : ◌≡◌ {A = ℕ} 0 1 = cc in omega arith)
 
 -- refusals of one number, each with the first failing pair where it has one, are the same
@@ -30,7 +28,7 @@ named_same n r s x y same p q = go (ℕ_discrete (number_of x) 5)
             pairs z = cc
 
 pub answered_same : (n r s number : ℕ) (x y : Answer) → Answered n r s number x → Answered n r s number y → x ≡ y
-answered_same n r s number Done Done p q = refl
-answered_same n r s number Done (Refused y) p q = let z = refusal_some y in absurd (omega (arith, p.is, q.is))
-answered_same n r s number (Refused x) Done p q = let z = refusal_some x in absurd (omega (arith, p.is, q.is))
-answered_same n r s number (Refused x) (Refused y) p q = ap Refused (named_same n r s x y (p.is ∙ sym q.is) (p.named x refl) (q.named y refl))
+answered_same n r s number (Ok u) (Ok v) p q = refl
+answered_same n r s number (Ok u) (Err y) p q = let z = refusal_some y in absurd (omega (arith, p.is, q.is))
+answered_same n r s number (Err x) (Ok v) p q = let z = refusal_some x in absurd (omega (arith, p.is, q.is))
+answered_same n r s number (Err x) (Err y) p q = ap Err (named_same n r s x y (p.is ∙ sym q.is) (p.named x refl) (q.named y refl))

@@ -1,7 +1,7 @@
 -- DEMAND 3, from judge's contract alone: within the limits the answer is 0 exactly when no two different sound stripes of e-byte elements
 -- look alike with any two strips removed, and exactly when the published bound holds; and it is 5 with (a, b) exactly when (a, b) is the
 -- first pair outside which two such stripes agree, and both are given. Assumes nothing.
-use Rattle.std.specs.Prelude.{◌≡◌, refl, ◌↔◌, ℕ, ◌<◌, ◌≤◌}
+use Rattle.std.specs.Prelude.{◌≡◌, refl, ◌↔◌, ℕ, ◌<◌, ◌≤◌, Ok, Err}
 use Rattle.std.proofs.Common.{sym, ap, ◌∙◌, arith}
 use Rattle.code.specs.Layout.{Layout, Fair, code, pair}
 use Rattle.code.specs.Code.{Fails, Decided}
@@ -10,12 +10,10 @@ use Rattle.code.specs.Bound.{Before, FirstPair, Order, first, equal, second}
 use Rattle.code.specs.Bound as bound
 use Rattle.code.proofs.Exact.{exact, good?, good_decided, order}
 use Rattle.code.specs.Lookalikes.{Lookalikes, lookalikes_of_fails, no_lookalikes_of_decided}
-use Rattle.shape.specs.declared.Judged.{Judged}
-use Rattle.shape.specs.declared.Judged.TheVariants.{Good, Refused}
 use Rattle.shape.specs.declared.refusal.Refusal.TheVariants.{Weak}
 use Rattle.shape.specs.Refusal.{lower_of, upper_of, weak_of}
 use Rattle.shape.specs.Limits.{Limits}
-use Rattle.shape.specs.Judge.{judged_number, Judges}
+use Rattle.shape.specs.Judge.{Judged, judged_number, Judges}
 use Rattle.shape.specs.JudgeLaws.{number_good, number_weak}
 use Rattle.shape.specs.LimitsLaws.{limits_fair}
 
@@ -58,7 +56,7 @@ module _ (n r s e : ℕ) (l : Limits n r s e) (x : Judged) (j : Judges n r s e x
   )
 
   -- it is 5 with (a, b) exactly when (a, b) is the first pair for which two such stripes exist
-  pub weak_exactly : (a b : ℕ) → (x ≡ Refused (Weak a b)) ↔ FirstLookalikes (shift n r s) e a b
+  pub weak_exactly : (a b : ℕ) → (x ≡ Err (Weak a b)) ↔ FirstLookalikes (shift n r s) e a b
   weak_exactly a b = (λ z. to (j.weak a b z), from)
     where
       to : FirstPair (shift n r s) a b → FirstLookalikes (shift n r s) e a b
@@ -70,7 +68,7 @@ module _ (n r s e : ℕ) (l : Limits n r s e) (x : Judged) (j : Judges n r s e x
             before = λ c d lc ld w. decided_alike c d (p.before c d lc ld w);
           }
 
-      from : FirstLookalikes (shift n r s) e a b → x ≡ Refused (Weak a b)
+      from : FirstLookalikes (shift n r s) e a b → x ≡ Err (Weak a b)
       from f = named x refl
         where
           five : judged_number x ≡ 5
@@ -84,15 +82,15 @@ module _ (n r s e : ℕ) (l : Limits n r s e) (x : Judged) (j : Judges n r s e x
               at (equal u v) = (u, v)
               at (second w) = absurd (decided_alike a b (p.before a b f.order f.within w) f.alike)
 
-          named : (y : Judged) → x ≡ y → y ≡ Refused (Weak a b)
-          named (Good h b') z = absurd (zero (sym (ap judged_number z) ∙ five))
+          named : (y : Judged) → x ≡ y → y ≡ Err (Weak a b)
+          named (Ok h) z = absurd (zero (sym (ap judged_number z) ∙ five))
             where
               zero : ◌≡◌ {A = ℕ} 0 5 → ⊥
               zero q = omega arith
-          named (Refused y) z = pairs (same (lower_of y) (upper_of y) (j.weak (lower_of y) (upper_of y) (z ∙ ap Refused is)))
+          named (Err y) z = pairs (same (lower_of y) (upper_of y) (j.weak (lower_of y) (upper_of y) (z ∙ ap Err is)))
             where
               is : y ≡ Weak (lower_of y) (upper_of y)
               is = weak_of y (sym (ap judged_number z) ∙ five)
 
-              pairs : (lower_of y ≡ a) × (upper_of y ≡ b) → ◌≡◌ {A = Judged} (Refused y) (Refused (Weak a b))
+              pairs : (lower_of y ≡ a) × (upper_of y ≡ b) → ◌≡◌ {A = Judged} (Err y) (Err (Weak a b))
               pairs q = cc is

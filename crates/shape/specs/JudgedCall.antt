@@ -1,22 +1,19 @@
 -- A call begins with the judged shape: where that is refused so is the call, with the same refusal; where it is good the call goes on at
 -- line 6. Assumes nothing.
-use Rattle.std.specs.Prelude.{◌≡◌, refl, ◌≢◌, Bool, true, false, ℕ, ◌≤◌, eqb}
+use Rattle.std.specs.Prelude.{◌≡◌, refl, ◌≢◌, Bool, true, false, ℕ, ◌≤◌, eqb, Ok, Err}
 use Rattle.std.proofs.Common.{sym, ap, ◌∙◌, arith, eq-eqb, ne_eqb}
 use Rattle.std.proofs.Math.Decide.{ℕ_discrete}
 use Rattle.code.specs.Sum.{pick}
 use Rattle.code.specs.Bound as bound
-use Rattle.shape.specs.declared.limits.Shape.{Shape}
-use Rattle.shape.specs.declared.Judged.{Judged}
-use Rattle.shape.specs.declared.Judged.TheVariants as judged
+use Rattle.shape.specs.declared.shapes.Shape.{Shape}
 use Rattle.shape.specs.declared.refusal.Refusal.{Refusal}
 use Rattle.shape.specs.declared.refusal.Refusal.TheVariants.{Weak, Length}
-use Rattle.shape.specs.declared.refusal.Answer.TheVariants.{Refused}
 use Rattle.shape.specs.Refusal.{number_of, lower_of, upper_of, refusal_some, unpaired, weak_of}
 use Rattle.shape.specs.Limits.{Limits, limit_number}
 use Rattle.shape.specs.LimitsLaws.{limits_number, zero_limits, broken_number}
 use Rattle.shape.specs.GoodTest.{good_test, good_tested, test_good}
-use Rattle.shape.specs.Call.{bytes_of, call_number, Named, Answered}
-use Rattle.shape.specs.Judge.{shape_number, judged_number, Judges}
+use Rattle.shape.specs.Call.{bytes_of, call_number, Named, Answer, Answered}
+use Rattle.shape.specs.Judge.{shape_number, Judged, judged_number, Judges}
 
 -- a refusal that is no weak shape has no pair to name
 pub unnamed : (n r s : ℕ) (x : Refusal) → number_of x ≢ 5 → Named n r s x
@@ -55,30 +52,30 @@ module _ (n r s e : ℕ) where
           (omega (arith, p.order, p.within), omega (arith, p.within))
 
   -- whatever comes after line 6
-  pub answered_small : (len last : ℕ) (y : Refusal) → Answered n r s (call_number n r s e len last) (Refused y) → (lower_of y ≤ 32) × (upper_of y ≤ 32)
+  pub answered_small : (len last : ℕ) (y : Refusal) → Answered n r s (call_number n r s e len last) (Err y) → (lower_of y ≤ 32) × (upper_of y ≤ 32)
   answered_small len last y a = named_small (pick (good_test n r s) (pick (eqb len (bytes_of n r e)) last 6) 5) y a.is (a.named y refl)
 
   module _ (x : Judged) (j : Judges n r s e x) where
     -- where the shape is refused, so is the call
-    pub refused_answered : (y : Refusal) → x ≡ judged.Refused y → (len last : ℕ) → Answered n r s (call_number n r s e len last) (Refused y)
+    pub refused_answered : (y : Refusal) → x ≡ Err y → (len last : ℕ) → Answered n r s (call_number n r s e len last) (Err y)
     refused_answered y q len last =
         record {
           is = same ∙ sym (call_refused len last (λ z. omega (arith, same, refusal_some y)));
-          named = λ z w. record { pair = λ a b v. j.weak a b (q ∙ ap judged.Refused (it z w ∙ v)) };
+          named = λ z w. record { pair = λ a b v. j.weak a b (q ∙ ap Err (it z w ∙ v)) };
         }
       where
         same : number_of y ≡ shape_number n r s e
         same = sym (ap judged_number q) ∙ j.number
 
-        it : (z : Refusal) → Refused y ≡ Refused z → y ≡ z
+        it : (z : Refusal) → ◌≡◌ {A = Answer} (Err y) (Err z) → y ≡ z
         it z w = cc
 
-    pub refused_small : (y : Refusal) → x ≡ judged.Refused y → (lower_of y ≤ 32) × (upper_of y ≤ 32)
+    pub refused_small : (y : Refusal) → x ≡ Err y → (lower_of y ≤ 32) × (upper_of y ≤ 32)
     refused_small y q =
-        named_small (pick (good_test n r s) 0 5) y (sym (ap judged_number q) ∙ j.number) (record { pair = λ a b z. j.weak a b (q ∙ ap judged.Refused z) })
+        named_small (pick (good_test n r s) 0 5) y (sym (ap judged_number q) ∙ j.number) (record { pair = λ a b z. j.weak a b (q ∙ ap Err z) })
 
     -- where it is good, it is within the limits and the bound
-    module _ (h : Shape) (b : ℕ) (q : x ≡ judged.Good h b) where
+    module _ (h : Shape) (b : ℕ) (q : x ≡ Ok (h, b)) where
       zero : shape_number n r s e ≡ 0
       zero = sym j.number ∙ ap judged_number q
 
@@ -110,12 +107,12 @@ module _ (n r s e : ℕ) where
     last_number len last q = good_number len last ∙ ap (λ (t : Bool). pick t last 6) (eq-eqb len (bytes_of n r e) q)
 
     -- a good shape and another length
-    pub length_answered : (len last : ℕ) → len ≢ bytes_of n r e → Answered n r s (call_number n r s e len last) (Refused Length)
+    pub length_answered : (len last : ℕ) → len ≢ bytes_of n r e → Answered n r s (call_number n r s e len last) (Err Length)
     length_answered len last ne =
         record {
           is = sym (good_number len last ∙ ap (λ (t : Bool). pick t last 6) (ne_eqb len (bytes_of n r e) ne));
           named = λ z w. record { pair = λ a b v. absurd (no_pair z w a b v) };
         }
       where
-        no_pair : (z : Refusal) → Refused Length ≡ Refused z → (a b : ℕ) → z ≡ Weak a b → ⊥
+        no_pair : (z : Refusal) → ◌≡◌ {A = Answer} (Err Length) (Err z) → (a b : ℕ) → z ≡ Weak a b → ⊥
         no_pair z w a b v = let k : ◌≡◌ {A = ℕ} 0 1 = cc in omega arith

@@ -3,6 +3,7 @@
 pub mod Refusal
 pub mod Limits
 pub mod LimitsLaws
+pub mod Within
 pub mod WithinLaws
 pub mod Answers
 pub mod GoodTest

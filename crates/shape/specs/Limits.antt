@@ -1,13 +1,8 @@
 -- The limits of a shape's four numbers, and the refusals 1 to 4. Assumes nothing.
 -- outside low high x == the test of x outside low..high
 -- limit_number n r s e rest == the first of the numbers 1 to 4 whose line holds; rest where none does
--- limited_number x == the number that within answers
-use Rattle.std.specs.Prelude.{◌≡◌, Bool, true, ◌⊎◌, ℕ, ◌-◌, ◌≤◌, ◌<◌, ltb}
+use Rattle.std.specs.Prelude.{Bool, true, ◌⊎◌, ℕ, ◌-◌, ◌≤◌, ◌<◌, ltb}
 use Rattle.code.specs.Sum.{pick}
-use Rattle.shape.specs.declared.limits.Shape.{Shape}
-use Rattle.shape.specs.declared.limits.Limited.{Limited}
-use Rattle.shape.specs.declared.limits.Limited.TheVariants.{Inside, Refused}
-use Rattle.shape.specs.Refusal.{number_of}
 
 -- n from 3 to 32; r from 1 to 32; s from 1 to n-1; e from 1 to 4096
 pub record Limits (n r s e : ℕ) : Type 0 where
@@ -29,15 +24,6 @@ limit_number n r s e rest =
     (pick (outside 1 32 r) 2
     (pick (outside 1 (n - 1) s) 3
     (pick (outside 1 4096 e) 4 rest)))
-
-abbrev pub limited_number : Limited → ℕ
-limited_number (Inside h) = 0
-limited_number (Refused x) = number_of x
-
--- what within answers: the number is the first refusal's, and a shape is that of the four numbers
-pub record Within (n r s e : ℕ) (x : Limited) : Type 0 where
-  pub number : limited_number x ≡ limit_number n r s e 0
-  pub shape : (h : Shape) → x ≡ Inside h → h ≡ record { n = n; r = r; s = s; e = e }
 
 -- x is not among low..high
 abbrev pub Outside : ℕ → ℕ → ℕ → Type 0

@@ -1,13 +1,11 @@
 -- What the pair judge asks of a map, and what it answers. Assumes nothing.
-use Rattle.std.specs.Prelude.{ℕ, ◌+◌, ◌<◌, ◌≤◌, ◌≡◌, List}
+use Rattle.std.specs.Prelude.{ℕ, ◌+◌, ◌<◌, ◌≤◌, ◌≡◌, List, Option, Some, None}
 use Rattle.std.proofs.Common.{sym, subst, inl, inr, arith}
 use Rattle.std.proofs.Math.Decide.{ℕ_discrete}
 use Rattle.code.specs.Bound.{Before, FirstPair}
 use Rattle.code.specs.Code.{Decided, Fails}
 use Rattle.code.specs.Drawn.{drawn}
 use Rattle.code.specs.Layout.{Layout, Fair, Latin, code, pair}
-use Rattle.shape.specs.declared.pairs.First.{First}
-use Rattle.shape.specs.declared.pairs.First.TheVariants.{At, Nothing}
 
 -- the map draws a layout that is fair, and in which no strip has a diagonal twice
 pub record MapOf (m : List (List ℕ)) (h : List ℕ) (n r : ℕ) : Type 0 where
@@ -20,9 +18,9 @@ pub record MapOf (m : List (List ℕ)) (h : List ℕ) (n r : ℕ) : Type 0 where
 pub record NoPair (L : Layout) : Type 0 where
   pub decided : (c d : ℕ) → c < d → d ≤ L.n → Decided (code L) (pair c d)
 
-abbrev pub FirstOf : Layout → First → Type 0
-FirstOf L (At a b) = FirstPair L a b
-FirstOf L Nothing = NoPair L
+abbrev pub FirstOf : Layout → Option (ℕ × ℕ) → Type 0
+FirstOf L (Some (a, b)) = FirstPair L a b
+FirstOf L None = NoPair L
 
 -- every pair before (a, b) is decided by the rest
 pub record Passed (L : Layout) (a b : ℕ) : Type 0 where

@@ -1,5 +1,5 @@
 -- From the map to the shape that it was filled from: the pair judge's answer is judge's. Assumes nothing.
-use Rattle.std.specs.Prelude.{ℕ, ◌+◌, ◌*◌, ◌≤◌, ◌≡◌, List}
+use Rattle.std.specs.Prelude.{ℕ, ◌+◌, ◌*◌, ◌≤◌, ◌≡◌, List, Option, Some, None, Ok, Err}
 use Rattle.std.proofs.Common.{subst, arith}
 use Rattle.code.specs.Alike.{fails_alike, decided_alike}
 use Rattle.code.specs.Drawn.{drawn, Draws}
@@ -7,11 +7,10 @@ use Rattle.code.specs.DrawnLaws.{drawn_fair, drawn_latin, drawn_alike}
 use Rattle.code.specs.Layout.{Layout, Fair, Latin, code, pair}
 use Rattle.code.specs.Shift.{shift}
 use Rattle.code.proofs.ShiftLaws.{shift_latin}
-use Rattle.shape.specs.declared.pairs.First.{First}
-use Rattle.shape.specs.declared.pairs.First.TheVariants.{At, Nothing}
-use Rattle.shape.specs.declared.Judged.TheVariants.{Good, Refused}
+use Rattle.shape.specs.declared.shapes.Shape.{Shape}
 use Rattle.shape.specs.declared.refusal.Refusal.TheVariants.{Weak}
 use Rattle.shape.specs.Limits.{Limits}
+use Rattle.shape.specs.Within.{ShapeOf}
 use Rattle.shape.specs.Map.{Filled, Homes}
 use Rattle.shape.specs.MapLaws.{filled_draws}
 use Rattle.shape.specs.Pairs.{MapOf, FirstOf}
@@ -23,15 +22,15 @@ module _ (m : List (List ℕ)) (h : List ℕ) (L : Layout) (F : Fair L) (x : Dra
   map_of_draws : L.n ≤ 32 → L.r ≤ 32 → Latin L → MapOf m h L.n L.r
   map_of_draws ln lr l = record { strips = ln; rows = lr; fair = drawn_fair m h L F x; latin = drawn_latin m h L F x l }
 
-  first_drawn : (f : First) → FirstOf (drawn m h L.n L.r) f → FirstOf L f
-  first_drawn (At a b) y =
+  first_drawn : (f : Option (ℕ × ℕ)) → FirstOf (drawn m h L.n L.r) f → FirstOf L f
+  first_drawn (Some (a, b)) y =
       record {
         order = y.order;
         within = y.within;
         fails = fails_alike (code (drawn m h L.n L.r)) (code L) (drawn_alike m h L F x) (pair a b) y.fails;
         before = λ c d lc ld w. decided_alike (code (drawn m h L.n L.r)) (code L) (drawn_alike m h L F x) (pair c d) (y.before c d lc ld w);
       }
-  first_drawn Nothing y =
+  first_drawn None y =
       record { decided = λ c d lc ld. decided_alike (code (drawn m h L.n L.r)) (code L) (drawn_alike m h L F x) (pair c d) (y.decided c d lc ld) }
 
 module _ (g : List (List ℕ)) (h : List ℕ) (n r s e : ℕ) (l : Limits n r s e) where
@@ -43,14 +42,14 @@ module _ (g : List (List ℕ)) (h : List ℕ) (n r s e : ℕ) (l : Limits n r s 
   shape_map lr f o =
       map_of_draws g h (shift n r s) fair (filled_draws g h n r s l.n_high f o) l.n_high l.r_high (shift_latin n r s (omega (arith, l.n_low)) lr)
 
-  module _ (f : Filled g n r s) (o : Homes h) (x : First) (y : FirstOf (drawn g h n r) x) where
-    of_shape : (z : First) → x ≡ z → FirstOf (shift n r s) z
+  module _ (f : Filled g n r s) (o : Homes h) (x : Option (ℕ × ℕ)) (y : FirstOf (drawn g h n r) x) where
+    of_shape : (z : Option (ℕ × ℕ)) → x ≡ z → FirstOf (shift n r s) z
     of_shape z q = first_drawn g h (shift n r s) fair (filled_draws g h n r s l.n_high f o) z (subst (FirstOf (drawn g h n r)) q y)
 
     -- its first failing pair is the shape's
-    pub shape_weak : (a b : ℕ) → x ≡ At a b → Judges n r s e (Refused (Weak a b))
-    shape_weak a b q = judges_weak n r s e l a b (of_shape (At a b) q)
+    pub shape_weak : (a b : ℕ) → x ≡ Some (a, b) → Judges n r s e (Err (Weak a b))
+    shape_weak a b q = judges_weak n r s e l a b (of_shape (Some (a, b)) q)
 
     -- and where it finds none the shape is good
-    pub shape_good : x ≡ Nothing → (b : ℕ) → b ≡ e * (n * (r + 1) + r) → Judges n r s e (Good (record { n = n; r = r; s = s; e = e }) b)
-    shape_good q b z = judges_good n r s e l (no_pair_good n r s e l (of_shape Nothing q)) b z
+    pub shape_good : x ≡ None → (k : Shape) → ShapeOf n r s e k → (b : ℕ) → b ≡ e * (n * (r + 1) + r) → Judges n r s e (Ok (k, b))
+    shape_good q k w b z = judges_good n r s e l k w (no_pair_good n r s e l (of_shape None q)) b z

@@ -1,41 +1,45 @@
 -- The numbers that come back, and the pair that comes with a weak shape. Assumes nothing.
--- number_of x == the number of the refusal x    lower_of x, upper_of x == the pair that comes with it; 0 and 0 where none does
-use Rattle.std.specs.Prelude.{◌≡◌, refl, ◌∷◌, [], ℕ, ◌-◌, ◌≤◌, get_or}
+-- number_of x == the number of the refusal x    pair_of x == the pair that comes with it, if any    lower_of x, upper_of x == that pair; 0 and 0
+-- where none does
+use Rattle.std.specs.Prelude.{◌≡◌, refl, ◌∷◌, [], ℕ, ◌-◌, ◌≤◌, get_or, Option, Some, None, unwrap_or}
 use Rattle.std.proofs.Common.{ap, ◌∙◌, lit≤}
 use Rattle.shape.specs.declared.refusal.Refusal.{Refusal}
 use Rattle.shape.specs.declared.refusal.Refusal.TheVariants.{Strips, Rows, Shift, Element, Weak, Length, Mask, Many, Place, NoSound}
 
 -- a refusal's number and its pair
-abbrev pub values : Refusal → ℕ × ℕ × ℕ
+abbrev pub values : Refusal → ℕ × Option (ℕ × ℕ)
 -- n outside 3..32
-values Strips = (1, 0, 0)
+values Strips = (1, None)
 -- r outside 1..32
-values Rows = (2, 0, 0)
+values Rows = (2, None)
 -- s outside 1..n-1
-values Shift = (3, 0, 0)
+values Shift = (3, None)
 -- e outside 1..4096
-values Element = (4, 0, 0)
+values Element = (4, None)
 -- weak shape; the pair comes with it
-values (Weak a b) = (5, a, b)
+values (Weak a b) = (5, Some (a, b))
 -- buffer length differs from the stripe's size
-values Length = (6, 0, 0)
+values Length = (6, None)
 -- mask has a one above bit n
-values Mask = (7, 0, 0)
+values Mask = (7, None)
 -- more than two strips lost
-values Many = (8, 0, 0)
+values Many = (8, None)
 -- place outside: row not below r, strip not below n, or offset plus length above e
-values Place = (9, 0, 0)
+values Place = (9, None)
 -- the survivors agree with no sound stripe
-values NoSound = (10, 0, 0)
+values NoSound = (10, None)
 
 abbrev pub number_of : Refusal → ℕ
 number_of x = (values x).0
 
+abbrev pub pair_of : Refusal → Option (ℕ × ℕ)
+pair_of x = (values x).1
+
 abbrev pub lower_of : Refusal → ℕ
-lower_of x = (values x).1
+lower_of x = (unwrap_or (pair_of x) (0, 0)).0
 
 abbrev pub upper_of : Refusal → ℕ
-upper_of x = (values x).2
+upper_of x = (unwrap_or (pair_of x) (0, 0)).1
 
 -- the refusal of a number and a pair
 refusal_at : ℕ → ℕ → ℕ → Refusal

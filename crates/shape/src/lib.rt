@@ -7,78 +7,50 @@ pub mod lost;
 pub mod map;
 pub mod pairs;
 pub mod refusal;
+pub mod shapes;
 
-ghost use Rattle.std.specs.Prelude.{◌≡◌, ◌≤◌};
-ghost use Rattle.shape.specs.Limits.{Limits};
-ghost use Rattle.shape.specs.Judge.{Judges, judged_answer};
+ghost use Rattle.std.specs.Prelude.{◌≤◌};
+ghost use Rattle.shape.specs.Judge.{Judges};
 
-pub use limits::{Limited, Shape, within};
-pub use pairs::First;
-pub use refusal::{Answer, Refusal};
+pub use limits::within;
+pub use refusal::Refusal;
+pub use shapes::Shape;
 
-#[derive(Clone, Copy)]
-pub enum Judged {
-    // With the bytes of its stripe.
-    Good(Shape, usize),
-    Refused(Refusal),
-}
-
-impl Judged {
-    // What a call answers that asks for the shape alone.
-    pub fn answer(self) -> Answer
-        ensures { result ≡ judged_answer self }
-    {
-        match self {
-            Judged::Good(_, _) => Answer::Done,
-            Judged::Refused(x) => Answer::Refused(x),
-        }
-    }
-}
-
-// The shape of four numbers, with its size, or the first of the refusals 1 to 5 that holds.
-pub fn judge(n: usize, r: usize, s: usize, e: usize) -> Judged
+// The shape of four numbers, with the bytes of its stripe, or the first of the refusals 1 to 5 that holds.
+pub fn judge(n: usize, r: usize, s: usize, e: usize) -> Result<(Shape, usize), Refusal>
     ensures { Judges n r s e result }
 {
-    match limits::within(n, r, s, e) {
-        Limited::Inside(shape) => judge_shape(shape),
-        Limited::Refused(x) => Judged::Refused(x),
-    }
+    let shape = within(n, r, s, e)?;
+    judge_shape(shape)
 }
 
 // A shape within the limits: good or weak by the bound; only a weak one pays for the search of its pair.
-fn judge_shape(shape: Shape) -> Judged
-    requires { Limits shape.n shape.r shape.s shape.e }
+fn judge_shape(shape: Shape) -> Result<(Shape, usize), Refusal>
     ensures { Judges shape.n shape.r shape.s shape.e result }
 {
     let n = shape.n;
     let r = shape.r;
     let s = shape.s;
     if bound::good(n, r, s) {
-        let size = shape.size();
-        return Judged::Good(shape, size);
+        return Ok((shape, shape.size()));
     }
     // An element lies on its own strip's diagonal: strips 0 and 1 fail at once, also where a strip has a diagonal twice.
     let over = n < r + s;
     if over {
-        return Judged::Refused(Refusal::Weak(0, 1));
+        return Err(Refusal::Weak(0, 1));
     }
     judge_pairs(shape)
 }
 
 // The same by the pairs of its map alone, in order.
-fn judge_pairs(shape: Shape) -> Judged
-    requires { Limits shape.n shape.r shape.s shape.e × (shape.r ≤ shape.n) }
+fn judge_pairs(shape: Shape) -> Result<(Shape, usize), Refusal>
+    requires { shape.r ≤ shape.n }
     ensures { Judges shape.n shape.r shape.s shape.e result }
 {
     let map = map::map_of(shape);
     let home = map::homes();
-    let n = shape.n;
-    let r = shape.r;
-    match pairs::first_failing(map, home, n, r) {
-        First::At(a, b) => Judged::Refused(Refusal::Weak(a, b)),
-        First::Nothing => {
-            let size = shape.size();
-            Judged::Good(shape, size)
-        }
+    match pairs::first_failing(map, home, shape.n, shape.r) {
+        Some((a, b)) => Err(Refusal::Weak(a, b)),
+        None => Ok((shape, shape.size())),
     }
 }

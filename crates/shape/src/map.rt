@@ -1,10 +1,9 @@
 // The whole map of diagonals, rows by strips, as one value, and the strips that store their parities.
 ghost use Rattle.std.specs.Prelude.{◌+◌, ◌%◌, ◌<◌, ◌≤◌};
 ghost use Rattle.shape.specs.Answers.{Among};
-ghost use Rattle.shape.specs.Limits.{Limits};
 ghost use Rattle.shape.specs.Map.{Turned, Filled, Homes};
 
-use crate::limits::Shape;
+use crate::shapes::Shape;
 
 // The diagonal after d, round the n of them.
 fn next(d: usize, n: usize) -> usize
@@ -33,7 +32,6 @@ fn turned(d: usize, n: usize) -> [u8; 32]
 
 // Every row is the one above it turned by one, so one division finds them all.
 pub fn map_of(shape: Shape) -> [[u8; 32]; 32]
-    requires { Limits shape.n shape.r shape.s shape.e }
     ensures { Filled result shape.n shape.r shape.s }
 {
     let n = shape.n;

@@ -1,8 +1,8 @@
 // Why a call is refused: the numbers 1 to 10 that come back.
 ghost use Rattle.std.specs.Prelude.{◌≡◌};
-ghost use Rattle.shape.specs.Refusal.{number_of, lower_of, upper_of};
+ghost use Rattle.shape.specs.Refusal.{number_of, pair_of};
 
-#[derive(Clone, Copy)]
+#[derive(Clone, Copy, Debug, PartialEq, Eq)]
 pub enum Refusal {
     Strips,
     Rows,
@@ -17,50 +17,32 @@ pub enum Refusal {
     NoSound,
 }
 
-// What a call answers that hands nothing back: it is done, or refused.
-#[derive(Clone, Copy)]
-pub enum Answer {
-    Done,
-    Refused(Refusal),
-}
-
-// A refusal's number, and the pair that comes with it; 0 and 0 where none does.
-#[derive(Clone, Copy)]
-pub struct Numbers {
-    pub number: u64,
-    pub lower: usize,
-    pub upper: usize,
-}
-
-fn alone(number: u64) -> Numbers
-    ensures { (result.number ≡ number) × (result.lower ≡ 0) × (result.upper ≡ 0) }
-{
-    Numbers {
-        number,
-        lower: 0,
-        upper: 0,
-    }
-}
-
 impl Refusal {
-    pub fn values(self) -> Numbers
-        ensures { (result.number ≡ number_of self) × (result.lower ≡ lower_of self) × (result.upper ≡ upper_of self) }
+    // The number that comes back.
+    pub fn number(self) -> u64
+        ensures { result ≡ number_of self }
     {
         match self {
-            Refusal::Strips => alone(1),
-            Refusal::Rows => alone(2),
-            Refusal::Shift => alone(3),
-            Refusal::Element => alone(4),
-            Refusal::Weak(a, b) => Numbers {
-                number: 5,
-                lower: a,
-                upper: b,
-            },
-            Refusal::Length => alone(6),
-            Refusal::Mask => alone(7),
-            Refusal::Many => alone(8),
-            Refusal::Place => alone(9),
-            Refusal::NoSound => alone(10),
+            Refusal::Strips => 1,
+            Refusal::Rows => 2,
+            Refusal::Shift => 3,
+            Refusal::Element => 4,
+            Refusal::Weak(_, _) => 5,
+            Refusal::Length => 6,
+            Refusal::Mask => 7,
+            Refusal::Many => 8,
+            Refusal::Place => 9,
+            Refusal::NoSound => 10,
+        }
+    }
+
+    // The pair of strips that comes with a weak shape.
+    pub fn pair(self) -> Option<(usize, usize)>
+        ensures { result ≡ pair_of self }
+    {
+        match self {
+            Refusal::Weak(a, b) => Some((a, b)),
+            _ => None,
         }
     }
 }

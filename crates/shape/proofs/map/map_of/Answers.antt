@@ -15,4 +15,4 @@ loop-i-preserved c = (
 
 pub returns : goal.returns
 returns c =
-    filled _ _ _ _ _ c.loop-i.invariant.1 _ _ _ c.requires c.diagonal-d.ensures.is (omega arith)
+    filled _ _ _ _ _ c.loop-i.invariant.1 _ _ _ c.args.shape.limits c.diagonal-d.ensures.is (omega arith)

@@ -5,42 +5,24 @@ use Rattle.shape.proofs.pairs.first_failing.Goals as goal
 
 pub loop-a-init : goal.loop-a-init
 loop-a-init c =
-    (omega arith, passed_start _)
-
-pub overflow_add-b : goal.overflow_add-b
-overflow_add-b c =
-    omega (arith, c.requires.strips)
+    passed_start _
 
 pub loop-b-init : goal.loop-b-init
 loop-b-init c =
-    (omega arith, omega arith, passed_turn _ _ _ c.loop-a.invariant.1 (omega arith))
-
-pub fails-requires : goal.fails-requires
-fails-requires c =
-    (c.loop-b.invariant.0, c.loop-b-test.true, c.requires)
+    passed_turn _ _ _ c.loop-a.invariant (omega arith)
 
 pub returns-then-fails : goal.returns-then-fails
 returns-then-fails c =
-    let inv = c.loop-b.invariant in
-    passed_first _ _ _ inv.2 inv.0 c.loop-b-test.true (c.fails.ensures.fails c.if-fails.true)
-
-pub overflow_add-b-in-loop-b : goal.overflow_add-b-in-loop-b
-overflow_add-b-in-loop-b c =
-    omega (arith, c.requires.strips)
+    passed_first _ _ _ c.loop-b.invariant (omega arith) (omega arith) (c.fails.ensures.fails c.if-fails.true)
 
 pub loop-b-preserved : goal.loop-b-preserved
 loop-b-preserved c =
-    let inv = c.loop-b.invariant in
-    (omega arith, omega arith, passed_next _ _ _ inv.2 (c.fails.ensures.decided c.if-fails.false))
-
-pub overflow_add-a : goal.overflow_add-a
-overflow_add-a c =
-    omega (arith, c.requires.strips)
+    passed_next _ _ _ c.loop-b.invariant (c.fails.ensures.decided c.if-fails.false)
 
 pub loop-a-preserved : goal.loop-a-preserved
 loop-a-preserved c =
-    (omega arith, passed_row _ _ _ c.loop-b.invariant.2 c.loop-b-test.false)
+    passed_row _ _ _ c.loop-b.invariant (omega arith)
 
 pub returns : goal.returns
 returns c =
-    passed_all _ _ _ c.loop-a.invariant.1 c.loop-a-test.false
+    passed_all _ _ _ c.loop-a.invariant (omega arith)

@@ -1,7 +1,7 @@
 -- `meets` meets its contract. Assumes nothing.
 use Rattle.std.proofs.Common.{arith, mod-lt, refl}
 use Rattle.code.specs.Shift as shift
-use Rattle.shape.proofs.limits.Shape.meets.Goals as goal
+use Rattle.shape.proofs.shapes.Shape.meets.Goals as goal
 
 pub returns : goal.returns
 unfolding shift.meets
