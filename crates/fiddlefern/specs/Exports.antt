@@ -5,7 +5,7 @@ use Rattle.code.specs.Sum.{pick}
 use Rattle.code.specs.Below.{count}
 use Rattle.code.specs.Layout.{X}
 use Rattle.code.specs.Shift.{shift}
-use Rattle.shape.specs.declared.limits.Shape.{Shape}
+use Rattle.shape.specs.declared.shapes.Shape.{Shape}
 use Rattle.shape.specs.declared.Judged.{Judged}
 use Rattle.shape.specs.declared.Judged.TheVariants.{Good, Refused}
 use Rattle.shape.specs.declared.refusal.Refusal.{Refusal}

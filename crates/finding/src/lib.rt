@@ -4,7 +4,6 @@
 ghost use Rattle.std.specs.Prelude.{◌≡◌, ◌+◌, ◌≤◌, ◌<◌, length};
 ghost use Rattle.code.specs.Layout.{line};
 ghost use Rattle.code.specs.Shift.{shift};
-ghost use Rattle.shape.specs.Limits.{Limits};
 ghost use Rattle.shape.specs.Call.{bytes_of};
 ghost use Rattle.lines.specs.Unbalanced.{unbalanced};
 ghost use Rattle.finding.specs.Found.{found_of, Finds};
@@ -42,7 +41,6 @@ struct Tally {
 
 // The wrong ones among the m lines from line `from` on. They are read from the last down, so that the last one found is the first.
 fn wrong_lines(shape: Shape, stripe: &[u8], from: usize, m: usize) -> Tally
-    requires limits { Limits shape.n shape.r shape.s shape.e }
     requires size { length stripe.now ≡ bytes_of shape.n shape.r shape.e }
     requires run { from + m ≤ shape.r + shape.n }
     ensures { Tallied m (λ v. unbalanced shape.e stripe.now (line (shift shape.n shape.r shape.s) (from + v))) result.count result.first }
@@ -64,7 +62,6 @@ fn wrong_lines(shape: Shape, stripe: &[u8], from: usize, m: usize) -> Tally
 
 // What the tallies of the rows and of the diagonals find.
 fn found(shape: Shape, rows: Tally, diagonals: Tally) -> Finding
-    requires limits { Limits shape.n shape.r shape.s shape.e }
     requires row { 0 < rows.count → rows.first < shape.r }
     requires diagonal { 0 < diagonals.count → diagonals.first < shape.n }
     ensures { result ≡ found_of (shift shape.n shape.r shape.s) rows.count rows.first diagonals.count diagonals.first }
@@ -93,7 +90,6 @@ fn found(shape: Shape, rows: Tally, diagonals: Tally) -> Finding
 
 // Scrub of a buffer of the shape's size: each line is listed and read once.
 pub fn scrub_shape(shape: Shape, stripe: &[u8]) -> Counts
-    requires limits { Limits shape.n shape.r shape.s shape.e }
     requires size { length stripe.now ≡ bytes_of shape.n shape.r shape.e }
     ensures { Finds (shift shape.n shape.r shape.s) shape.e stripe.now result }
 {

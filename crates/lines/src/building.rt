@@ -2,7 +2,6 @@
 ghost use Rattle.std.specs.Prelude.{◌≡◌, ◌+◌, ◌<◌, length};
 ghost use Rattle.code.specs.Layout.{line};
 ghost use Rattle.code.specs.Shift.{shift};
-ghost use Rattle.shape.specs.Limits.{Limits};
 ghost use Rattle.shape.specs.Call.{bytes_of};
 ghost use Rattle.lines.specs.Others.{Builds};
 
@@ -12,7 +11,6 @@ use shape::Shape;
 // Place v of line t becomes the sum of the others; the last one takes its room in the list. The caller lends one list to all its lines,
 // so that it is cleared once and not for every line.
 pub fn build(shape: Shape, t: usize, v: usize, offs: &mut [usize; 33], stripe: &mut [u8])
-    requires limits { Limits shape.n shape.r shape.s shape.e }
     requires line { (t < shape.r + shape.n) × (v < length (line (shift shape.n shape.r shape.s) t)) }
     requires size { length stripe.old ≡ bytes_of shape.n shape.r shape.e }
     requires room { length offs.old ≡ 33 }

@@ -2,7 +2,6 @@
 ghost use Rattle.std.specs.Prelude.{◌≡◌, ◌+◌, ◌*◌, ◌≤◌, ◌<◌, length};
 ghost use Rattle.code.specs.Layout.{X, places};
 ghost use Rattle.code.specs.Shift.{shift};
-ghost use Rattle.shape.specs.Limits.{Limits};
 ghost use Rattle.shape.specs.Answers.{Among};
 ghost use Rattle.lines.specs.Listed.{Listed};
 
@@ -10,7 +9,6 @@ use shape::Shape;
 
 // The place of row i of strip j: row r is the strip's U, strip n holds the H, and the corner where they would meet is not stored.
 pub fn place(shape: Shape, i: usize, j: usize) -> usize
-    requires limits { Limits shape.n shape.r shape.s shape.e }
     requires stored { (i ≤ shape.r) × (j ≤ shape.n) × (i + j < shape.r + shape.n) }
     ensures { Among (places (shift shape.n shape.r shape.s)) (X (shift shape.n shape.r shape.s) i j) result }
 {
@@ -19,7 +17,6 @@ pub fn place(shape: Shape, i: usize, j: usize) -> usize
 
 // The byte where row i of strip j starts.
 fn start(shape: Shape, i: usize, j: usize) -> usize
-    requires limits { Limits shape.n shape.r shape.s shape.e }
     requires stored { (i ≤ shape.r) × (j ≤ shape.n) × (i + j < shape.r + shape.n) }
     ensures { result ≡ X (shift shape.n shape.r shape.s) i j * shape.e }
 {
@@ -28,7 +25,6 @@ fn start(shape: Shape, i: usize, j: usize) -> usize
 
 // Row i, and how many elements it has: the next one starts a whole strip further on, and H is that of strip n.
 fn fill_row(shape: Shape, i: usize, offs: &mut [usize; 33]) -> usize
-    requires limits { Limits shape.n shape.r shape.s shape.e }
     requires row { (i < shape.r) × (length offs.old ≡ 33) }
     ensures { Listed (shift shape.n shape.r shape.s) shape.e i offs.new result }
 {
@@ -49,7 +45,6 @@ fn fill_row(shape: Shape, i: usize, offs: &mut [usize; 33]) -> usize
 // Diagonal d, and how many elements it has: the strip falls by one from row to row, so the next one starts r elements sooner, but after strip 0
 // comes strip n - 1. One division finds them all, and no product is formed for each.
 fn fill_diagonal(shape: Shape, d: usize, offs: &mut [usize; 33]) -> usize
-    requires limits { Limits shape.n shape.r shape.s shape.e }
     requires diagonal { (d < shape.n) × (length offs.old ≡ 33) }
     ensures { Listed (shift shape.n shape.r shape.s) shape.e (shape.r + d) offs.new result }
 {
@@ -71,7 +66,6 @@ fn fill_diagonal(shape: Shape, d: usize, offs: &mut [usize; 33]) -> usize
 
 // Where the elements of line t start, its parity last, and how many they are: the rows, then the diagonals.
 pub fn line(shape: Shape, t: usize, offs: &mut [usize; 33]) -> usize
-    requires limits { Limits shape.n shape.r shape.s shape.e }
     requires line { (t < shape.r + shape.n) × (length offs.old ≡ 33) }
     ensures { Listed (shift shape.n shape.r shape.s) shape.e t offs.new result }
 {

@@ -2,7 +2,6 @@
 ghost use Rattle.std.specs.Prelude.{◌≡◌, ◌+◌, ◌<◌, length};
 ghost use Rattle.code.specs.Layout.{line};
 ghost use Rattle.code.specs.Shift.{shift};
-ghost use Rattle.shape.specs.Limits.{Limits};
 ghost use Rattle.shape.specs.Call.{bytes_of};
 ghost use Rattle.lines.specs.Unbalanced.{unbalanced};
 
@@ -11,7 +10,6 @@ use shape::Shape;
 
 // Whether line t, the rows and then the diagonals, does not sum to zero in some byte; the list is lent, as for `build`.
 pub fn wrong_line(shape: Shape, stripe: &[u8], t: usize, offs: &mut [usize; 33]) -> bool
-    requires limits { Limits shape.n shape.r shape.s shape.e }
     requires size { length stripe.now ≡ bytes_of shape.n shape.r shape.e }
     requires line { t < shape.r + shape.n }
     requires room { length offs.old ≡ 33 }

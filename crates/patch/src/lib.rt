@@ -3,7 +3,6 @@
 
 ghost use Rattle.std.specs.Prelude.{◌≡◌, ◌+◌, ◌-◌, ◌*◌, ◌≤◌, ◌<◌, length, get_or};
 ghost use Rattle.code.specs.Shift.{shift};
-ghost use Rattle.shape.specs.Limits.{Limits};
 ghost use Rattle.shape.specs.Call.{bytes_of};
 ghost use Rattle.patch.specs.Written.{written_over};
 ghost use Rattle.patch.specs.Patch.{Touches, Spots, Patched};
@@ -21,7 +20,6 @@ struct Touched {
 
 // The places of row and strip, of their H and of their U.
 fn places(shape: Shape, row: usize, strip: usize) -> Touched
-    requires limits { Limits shape.n shape.r shape.s shape.e }
     requires place { (row < shape.r) × (strip < shape.n) }
     ensures { Touches (shift shape.n shape.r shape.s) row strip result }
 {
@@ -60,7 +58,6 @@ pub fn write_shape(
     offset: usize,
     run: &[u8],
 )
-    requires limits { Limits shape.n shape.r shape.s shape.e }
     requires size { length stripe.old ≡ bytes_of shape.n shape.r shape.e }
     requires place { (row < shape.r) × (strip < shape.n) × (offset + length run.now ≤ shape.e) }
     ensures { stripe.new ≡ written_over (shift shape.n shape.r shape.s) shape.e row strip offset run.now stripe.old }

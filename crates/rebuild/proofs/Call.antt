@@ -5,7 +5,7 @@ use Rattle.code.specs.Below.{count}
 use Rattle.code.specs.Bound.{Good}
 use Rattle.code.specs.Layout.{places}
 use Rattle.code.specs.Shift.{shift}
-use Rattle.shape.specs.declared.limits.Shape.{Shape}
+use Rattle.shape.specs.declared.shapes.Shape.{Shape}
 use Rattle.shape.specs.declared.refusal.Refusal.{Refusal}
 use Rattle.shape.specs.declared.refusal.Refusal.TheVariants.{Mask, Many, NoSound}
 use Rattle.shape.specs.declared.refusal.Answer.{Answer}

@@ -2,7 +2,6 @@
 ghost use Rattle.std.specs.Prelude.{◌≡◌, ◌+◌, ◌*◌, ◌≤◌, length};
 ghost use Rattle.code.specs.Shift.{shift};
 ghost use Rattle.element.specs.Filled.{Filled};
-ghost use Rattle.shape.specs.Limits.{Limits};
 ghost use Rattle.shape.specs.Call.{bytes_of};
 ghost use Rattle.rebuild.specs.Clear.{Rows, Clears};
 
@@ -10,7 +9,6 @@ use shape::Shape;
 
 // The rows that a strip stores: the last one has no corner.
 pub fn rows(shape: Shape, strip: usize) -> usize
-    requires { Limits shape.n shape.r shape.s shape.e }
     ensures { Rows (shift shape.n shape.r shape.s) strip result }
 {
     let r = shape.r;
@@ -29,7 +27,6 @@ pub fn fill(stripe: &mut [u8], d: usize, m: usize, value: u8)
 
 // Every byte of the strip becomes zero; nothing else changes.
 pub fn clear(shape: Shape, strip: usize, stripe: &mut [u8])
-    requires limits { Limits shape.n shape.r shape.s shape.e }
     requires strip { strip ≤ shape.n }
     requires size { length stripe.old ≡ bytes_of shape.n shape.r shape.e }
     ensures { Clears (shift shape.n shape.r shape.s) shape.e strip stripe.old stripe.new }

@@ -4,7 +4,6 @@ ghost use Rattle.code.specs.Below.{count};
 ghost use Rattle.code.specs.Layout.{pair};
 ghost use Rattle.code.specs.Shift.{shift};
 ghost use Rattle.code.specs.Bound.{Good};
-ghost use Rattle.shape.specs.Limits.{Limits};
 ghost use Rattle.shape.specs.Call.{bytes_of};
 ghost use Rattle.shape.specs.Mask.{lost_in, above_test};
 ghost use Rattle.rebuild.specs.PlanRun.{PlanRun, Mends};
@@ -17,7 +16,7 @@ use shape::lost::{first_lost, last_lost};
 
 // The walker's plan for the strips a and b, run on the bytes; the lines that it used are marked.
 fn run(shape: Shape, a: usize, b: usize, stripe: &mut [u8], used: &mut [u8; 64])
-    requires limits { Limits shape.n shape.r shape.s shape.e × Good shape.n shape.r shape.s }
+    requires good { Good shape.n shape.r shape.s }
     requires strips { (a ≤ b) × (b ≤ shape.n) }
     requires size { length stripe.old ≡ bytes_of shape.n shape.r shape.e }
     requires used { (length used.old ≡ 64) × ((t : ℕ) → get_or used.old t 0 ≡ 0) }
@@ -32,7 +31,7 @@ fn run(shape: Shape, a: usize, b: usize, stripe: &mut [u8], used: &mut [u8; 64])
 
 // With the strips a and b lost, which are one strip where they are the same.
 fn mend_pair(shape: Shape, a: usize, b: usize, stripe: &mut [u8]) -> bool
-    requires limits { Limits shape.n shape.r shape.s shape.e × Good shape.n shape.r shape.s }
+    requires good { Good shape.n shape.r shape.s }
     requires strips { (a ≤ b) × (b ≤ shape.n) }
     requires size { length stripe.old ≡ bytes_of shape.n shape.r shape.e }
     ensures { Mends (shift shape.n shape.r shape.s) shape.e (pair a b) stripe.old stripe.new result }
@@ -50,7 +49,7 @@ fn mend_pair(shape: Shape, a: usize, b: usize, stripe: &mut [u8]) -> bool
 // The strips of the mask mended: true, and the one sound stripe that agrees with the survivors; or false, and the lost strips cleared, since
 // there is none. A caller with room of its own can mend a copy there.
 pub fn mend(shape: Shape, stripe: &mut [u8], mask: u64) -> bool
-    requires limits { Limits shape.n shape.r shape.s shape.e × Good shape.n shape.r shape.s }
+    requires good { Good shape.n shape.r shape.s }
     requires lost { (above_test mask shape.n ≡ false) × (count 64 (lost_in mask) ≤ 2) }
     requires size { length stripe.old ≡ bytes_of shape.n shape.r shape.e }
     ensures { Mends (shift shape.n shape.r shape.s) shape.e (lost_in mask) stripe.old stripe.new result }

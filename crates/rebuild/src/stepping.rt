@@ -2,7 +2,6 @@
 ghost use Rattle.std.specs.Prelude.{◌≡◌, ℕ, ◌+◌, ◌*◌, ◌≤◌, ◌<◌, length, get_or};
 ghost use Rattle.code.specs.Shift.{shift};
 ghost use Rattle.walker.specs.Written.{step, written};
-ghost use Rattle.shape.specs.Limits.{Limits};
 ghost use Rattle.shape.specs.Call.{bytes_of};
 ghost use Rattle.rebuild.specs.Running.{Running};
 ghost use Rattle.rebuild.specs.Stepping.{Shaped, Stepped};
@@ -19,7 +18,6 @@ fn run_step(
     offs: &mut [usize; 33],
     stripe: &mut [u8],
 ) -> usize
-    requires limits { Limits shape.n shape.r shape.s shape.e }
     requires shaped { Shaped shape.n shape.r (step kind row strip) }
     requires size { length stripe.old ≡ bytes_of shape.n shape.r shape.e }
     requires room { length offs.old ≡ 33 }
@@ -48,7 +46,6 @@ pub fn run_steps(
     stripe: &mut [u8],
     used: &mut [u8; 64],
 )
-    requires limits { Limits shape.n shape.r shape.s shape.e }
     requires steps { (count ≤ 66) × ((u : ℕ) → u < count → Shaped shape.n shape.r (written steps.now u)) }
     requires size { length stripe.old ≡ bytes_of shape.n shape.r shape.e }
     requires used { (length used.old ≡ 64) × ((t : ℕ) → get_or used.old t 0 ≡ 0) }

@@ -1,7 +1,6 @@
 // The lines that no step used, tested.
 ghost use Rattle.std.specs.Prelude.{◌≡◌, length};
 ghost use Rattle.code.specs.Shift.{shift};
-ghost use Rattle.shape.specs.Limits.{Limits};
 ghost use Rattle.shape.specs.Call.{bytes_of};
 ghost use Rattle.rebuild.specs.Testing.{Tests};
 
@@ -9,7 +8,6 @@ use shape::Shape;
 
 // Whether every line t with used[t] zero sums to zero in every byte.
 pub fn unused_zero(shape: Shape, stripe: &[u8], used: &[u8; 64]) -> bool
-    requires limits { Limits shape.n shape.r shape.s shape.e }
     requires size { length stripe.now ≡ bytes_of shape.n shape.r shape.e }
     ensures { Tests (shift shape.n shape.r shape.s) shape.e used.now stripe.now result }
 {

@@ -10,7 +10,7 @@ use Rattle.code.specs.Shift as shifted
 use Rattle.code.proofs.ShiftLaws.{shift_fair}
 use Rattle.code.specs.Steps.{Written, BuiltAt}
 use Rattle.code.specs.Walk.{Walk}
-use Rattle.shape.specs.declared.limits.Shape.{Shape}
+use Rattle.shape.specs.declared.shapes.Shape.{Shape}
 use Rattle.shape.specs.declared.refusal.Refusal.{Refusal}
 use Rattle.shape.specs.declared.Judged.TheVariants.{Good, Refused}
 use Rattle.shape.specs.Refusal.{number_of, refusal_some}

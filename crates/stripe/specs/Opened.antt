@@ -1,7 +1,7 @@
 -- Lines 1 to 6 of a call: a buffer of len bytes opened under four numbers. Assumes nothing.
 use Rattle.std.specs.Prelude.{◌≡◌, ℕ}
 use Rattle.code.specs.Bound.{Good}
-use Rattle.shape.specs.declared.limits.Shape.{Shape}
+use Rattle.shape.specs.declared.shapes.Shape.{Shape}
 use Rattle.shape.specs.declared.refusal.Refusal.{Refusal}
 use Rattle.shape.specs.declared.refusal.Answer.TheVariants as answer
 use Rattle.shape.specs.declared.Judged.{Judged}

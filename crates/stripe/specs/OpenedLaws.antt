@@ -3,7 +3,7 @@ use Rattle.std.specs.Prelude.{◌≡◌, refl, ◌≢◌, Bool, true, false, ℕ
 use Rattle.std.proofs.Common.{sym, ◌∙◌, subst, arith, eqb-true}
 use Rattle.code.specs.Sum.{pick}
 use Rattle.code.specs.Bound.{Good}
-use Rattle.shape.specs.declared.limits.Shape.{Shape}
+use Rattle.shape.specs.declared.shapes.Shape.{Shape}
 use Rattle.shape.specs.declared.refusal.Refusal.{Refusal}
 use Rattle.shape.specs.declared.refusal.Refusal.TheVariants.{Length}
 use Rattle.shape.specs.declared.refusal.Answer.TheVariants as answer

@@ -2,7 +2,6 @@
 ghost use Rattle.std.specs.Prelude.{◌≡◌, ◌-◌, length};
 ghost use Rattle.code.specs.Layout.{line};
 ghost use Rattle.code.specs.Shift.{shift};
-ghost use Rattle.shape.specs.Limits.{Limits};
 ghost use Rattle.shape.specs.Call.{bytes_of};
 ghost use Rattle.stripe.specs.Encode.{EncodedFrom};
 
@@ -18,7 +17,6 @@ fn parity_in(shape: Shape, t: usize) -> usize
 
 // Every line's parity in turn: none stands on a line that is already set.
 pub(crate) fn encode_shape(shape: Shape, stripe: &mut [u8])
-    requires limits { Limits shape.n shape.r shape.s shape.e }
     requires size { length stripe.old ≡ bytes_of shape.n shape.r shape.e }
     ensures { EncodedFrom (shift shape.n shape.r shape.s) shape.e stripe.old stripe.new }
 {

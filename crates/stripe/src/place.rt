@@ -1,13 +1,11 @@
 // Line 9: whether a row, a strip or a run lies outside the shape.
 ghost use Rattle.std.specs.Prelude.{◌≡◌};
-ghost use Rattle.shape.specs.Limits.{Limits};
 ghost use Rattle.stripe.specs.Write.{place_outside};
 
 use shape::Shape;
 
 // Line 9, by row, then strip, then run, for any four numbers.
 pub fn outside(shape: Shape, row: usize, strip: usize, offset: usize, len: usize) -> bool
-    requires { Limits shape.n shape.r shape.s shape.e }
     ensures { result ≡ place_outside shape.n shape.r shape.e row strip offset len }
 {
     let n = shape.n;

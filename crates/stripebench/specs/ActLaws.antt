@@ -5,7 +5,7 @@ use Rattle.std.proofs.Common.{sym, ◌∙◌, subst, arith, take_at, length-take
 use Rattle.std.proofs.Math.Decide.{ℕ_discrete}
 use Rattle.std.proofs.Math.Seq.{length_front}
 use Rattle.code.specs.Shift.{shift}
-use Rattle.shape.specs.declared.limits.Shape.{Shape}
+use Rattle.shape.specs.declared.shapes.Shape.{Shape}
 use Rattle.shape.specs.LimitsLaws.{limits_fair}
 use Rattle.patch.proofs.WrittenLaws.{written_length}
 use Rattle.stripe.specs.Write.{write_number, written}

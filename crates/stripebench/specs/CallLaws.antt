@@ -7,7 +7,7 @@ use Rattle.code.specs.Sum.{pick}
 use Rattle.code.specs.Below.{count}
 use Rattle.code.specs.Shift.{shift}
 use Rattle.code.specs.Sound.{SoundStripe}
-use Rattle.shape.specs.declared.limits.Shape.{Shape}
+use Rattle.shape.specs.declared.shapes.Shape.{Shape}
 use Rattle.shape.specs.declared.refusal.Refusal.{Refusal}
 use Rattle.shape.specs.declared.refusal.Refusal.TheVariants.{Mask, Many}
 use Rattle.shape.specs.declared.refusal.Answer.{Answer}

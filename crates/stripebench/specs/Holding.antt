@@ -5,7 +5,7 @@ use Rattle.code.specs.Bound.{Good}
 use Rattle.code.specs.Place.{at}
 use Rattle.code.specs.Shift.{shift}
 use Rattle.code.specs.Sound.{Sound}
-use Rattle.shape.specs.declared.limits.Shape.{Shape}
+use Rattle.shape.specs.declared.shapes.Shape.{Shape}
 use Rattle.shape.specs.Limits.{Limits}
 use Rattle.stripebench.specs.declared.acting.Current.{Current}
 use Rattle.stripebench.specs.declared.acting.Current.TheVariants.{Unset, Set}

@@ -8,7 +8,7 @@ use Rattle.code.specs.SumLaws.{sum_to_nil, length_table, get_or_table}
 use Rattle.code.specs.AlongLaws.{along_nil}
 use Rattle.code.specs.Shift.{shift}
 use Rattle.element.specs.Filled.{Filled}
-use Rattle.shape.specs.declared.limits.Shape.{Shape}
+use Rattle.shape.specs.declared.shapes.Shape.{Shape}
 use Rattle.shape.specs.declared.Judged.{Judged}
 use Rattle.shape.specs.declared.Judged.TheVariants as judged
 use Rattle.shape.specs.declared.refusal.Refusal.{Refusal}

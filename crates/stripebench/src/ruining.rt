@@ -3,7 +3,6 @@ ghost use Rattle.std.specs.Prelude.{◌≡◌, false, ◌*◌, ◌≤◌, length
 ghost use Rattle.code.specs.Below.{count};
 ghost use Rattle.code.specs.Layout.{pair};
 ghost use Rattle.code.specs.Shift.{shift};
-ghost use Rattle.shape.specs.Limits.{Limits};
 ghost use Rattle.shape.specs.Call.{bytes_of};
 ghost use Rattle.shape.specs.Mask.{lost_in, above_test};
 ghost use Rattle.stripebench.specs.Ruin.{Ruins};
@@ -14,7 +13,6 @@ use shape::lost::{first_lost, last_lost};
 
 // Every byte of the strip becomes FF; nothing else changes.
 fn ruin_strip(shape: Shape, strip: usize, stripe: &mut [u8])
-    requires limits { Limits shape.n shape.r shape.s shape.e }
     requires strip { strip ≤ shape.n }
     requires size { length stripe.old ≡ bytes_of shape.n shape.r shape.e }
     ensures { Ruins (shift shape.n shape.r shape.s) shape.e (pair strip strip) stripe.old stripe.new }
@@ -27,7 +25,6 @@ fn ruin_strip(shape: Shape, strip: usize, stripe: &mut [u8])
 
 // Every byte of the mask's strips, at most two, becomes FF; nothing else changes.
 pub fn ruin(shape: Shape, mask: u64, stripe: &mut [u8])
-    requires limits { Limits shape.n shape.r shape.s shape.e }
     requires lost { (above_test mask shape.n ≡ false) × (count 64 (lost_in mask) ≤ 2) }
     requires size { length stripe.old ≡ bytes_of shape.n shape.r shape.e }
     ensures { Ruins (shift shape.n shape.r shape.s) shape.e (lost_in mask) stripe.old stripe.new }

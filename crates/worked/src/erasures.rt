@@ -1,7 +1,6 @@
 // Every lost set of one and of two strips, of every accepted shape with n up to 9 at e = 3: rebuilt from sound survivors, and from survivors
 // of which each element in turn was damaged. Prints each failure, and what came of all.
 ghost use Rattle.std.specs.Prelude.{◌≡◌, ◌+◌, ◌*◌, ◌<◌, ◌≤◌, length};
-ghost use Rattle.shape.specs.Limits.{Limits};
 
 use crate::counts::{Counts, Seen};
 use crate::judge_all::part;
@@ -32,7 +31,6 @@ fn damage(
     p: usize,
     room: &mut [u8],
 ) -> io::Result<Seen>
-    requires limits { Limits shape.n shape.r shape.s shape.e }
     requires strips { (a ≤ b) × (b ≤ shape.n) }
     requires size { length stripe.now ≡ length room.old }
     requires place { p * 3 + 2 < length stripe.now }
@@ -62,7 +60,6 @@ fn damage_each(
     stripe: &[u8],
     room: &mut [u8],
 ) -> io::Result<Seen>
-    requires limits { Limits shape.n shape.r shape.s shape.e }
     requires strips { (a ≤ b) × (b ≤ shape.n) }
     requires size { length stripe.now ≡ length room.old }
 {
@@ -84,7 +81,6 @@ fn lose_set(
     stripe: &mut [u8],
     room: &mut [u8],
 ) -> io::Result<Counts>
-    requires limits { Limits shape.n shape.r shape.s shape.e }
     requires strips { (a ≤ b) × (b ≤ shape.n) }
     requires size { length stripe.old ≡ length room.old }
 {
@@ -107,7 +103,6 @@ fn lose_one(
     stripe: &mut [u8],
     room: &mut [u8],
 ) -> io::Result<Counts>
-    requires limits { Limits shape.n shape.r shape.s shape.e }
     requires size { length stripe.old ≡ length room.old }
 {
     for a in 0..shape.n + 1 {
@@ -124,7 +119,6 @@ fn lose_two(
     stripe: &mut [u8],
     room: &mut [u8],
 ) -> io::Result<Counts>
-    requires limits { Limits shape.n shape.r shape.s shape.e }
     requires size { length stripe.old ≡ length room.old }
 {
     let n = shape.n;
@@ -145,7 +139,6 @@ fn lose_sets(
     stripe: &mut [u8],
     room: &mut [u8],
 ) -> io::Result<Counts>
-    requires limits { Limits shape.n shape.r shape.s shape.e }
     requires size { length stripe.old ≡ length room.old }
 {
     if lost == 1 {

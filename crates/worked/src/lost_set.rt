@@ -1,7 +1,6 @@
 // A lost set of one or two strips at e = 3: a stripe loses it and is rebuilt, from sound survivors or from damaged ones, and every byte is
 // compared. Where one strip is lost, a and b are the same.
 ghost use Rattle.std.specs.Prelude.{◌≡◌, ◌<◌, ◌≤◌, length};
-ghost use Rattle.shape.specs.Limits.{Limits};
 
 use crate::lost_bytes::{cleared, kept, lose, same};
 use crate::small::number;
@@ -40,7 +39,6 @@ fn fill(seed: u64, stripe: &mut [u8])
 
 // A number of its own for each shape and lost set.
 fn seed(shape: Shape, a: usize, b: usize) -> u64
-    requires limits { Limits shape.n shape.r shape.s shape.e }
     requires strips { (a ≤ b) × (b ≤ shape.n) }
     ensures { result < 2147483647 }
 {
@@ -50,7 +48,6 @@ fn seed(shape: Shape, a: usize, b: usize) -> u64
 
 // Makes the stripe a sound one, of data that are other ones for each shape and lost set; whether encode answered 0.
 pub(crate) fn fresh(shape: Shape, a: usize, b: usize, stripe: &mut [u8]) -> bool
-    requires limits { Limits shape.n shape.r shape.s shape.e }
     requires strips { (a ≤ b) × (b ≤ shape.n) }
 {
     fill(seed(shape, a, b), stripe);
@@ -82,7 +79,6 @@ fn rebuilt(
     x: u8,
     room: &mut [u8],
 ) -> u64
-    requires limits { Limits shape.n shape.r shape.s shape.e }
     requires strips { (a ≤ b) × (b ≤ shape.n) }
     requires size { length stripe.now ≡ length room.old }
 {
@@ -93,7 +89,6 @@ fn rebuilt(
 
 // Whether the sound stripe, with a and b lost, comes back: answer 0, and every byte is the same.
 pub(crate) fn given_back(shape: Shape, a: usize, b: usize, stripe: &[u8], room: &mut [u8]) -> bool
-    requires limits { Limits shape.n shape.r shape.s shape.e }
     requires strips { (a ≤ b) × (b ≤ shape.n) }
     requires size { length stripe.now ≡ length room.old }
 {
@@ -113,7 +108,6 @@ pub(crate) fn outcome(
     x: u8,
     room: &mut [u8],
 ) -> Damaged
-    requires limits { Limits shape.n shape.r shape.s shape.e }
     requires strips { (a ≤ b) × (b ≤ shape.n) }
     requires size { length stripe.now ≡ length room.old }
 {

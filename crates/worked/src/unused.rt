@@ -1,14 +1,12 @@
 // The lines that no step of the plan uses, told from the walker's steps alone.
 ghost use Rattle.std.specs.Prelude.{ℕ, ◌+◌, ◌<◌, ◌≤◌};
 ghost use Rattle.walker.specs.Written.{step, written};
-ghost use Rattle.shape.specs.Limits.{Limits};
 ghost use Rattle.rebuild.specs.Stepping.{Shaped};
 
 use shape::Shape;
 
 // The line that the step (kind, row, strip) uses: kind 2 its diagonal, kind 4 the diagonal whose U the strip stores, the rest their row.
 fn line_of(shape: Shape, kind: u8, row: usize, strip: usize) -> usize
-    requires limits { Limits shape.n shape.r shape.s shape.e }
     requires shaped { Shaped shape.n shape.r (step kind row strip) }
     ensures { result < 64 }
 {
@@ -23,7 +21,6 @@ fn line_of(shape: Shape, kind: u8, row: usize, strip: usize) -> usize
 
 // Marks the lines that the first count of the steps use.
 fn mark(shape: Shape, steps: &[u8; 198], count: usize) -> [u8; 64]
-    requires limits { Limits shape.n shape.r shape.s shape.e }
     requires steps { (count ≤ 66) × ((u : ℕ) → u < count → Shaped shape.n shape.r (written steps.now u)) }
 {
     let mut used = [0u8; 64];
@@ -40,7 +37,6 @@ fn mark(shape: Shape, steps: &[u8; 198], count: usize) -> [u8; 64]
 
 // The lines that the plan for the strips a and b uses, marked with 1.
 pub(crate) fn used_lines(shape: Shape, a: usize, b: usize) -> [u8; 64]
-    requires limits { Limits shape.n shape.r shape.s shape.e }
     requires strips { (a ≤ b) × (b ≤ shape.n) }
 {
     let map = shape::map::map_of(shape);
@@ -52,7 +48,6 @@ pub(crate) fn used_lines(shape: Shape, a: usize, b: usize) -> [u8; 64]
 
 // Whether place p is the parity of a line that is not marked.
 pub(crate) fn unused_parity(shape: Shape, used: &[u8; 64], p: usize) -> bool
-    requires { Limits shape.n shape.r shape.s shape.e }
 {
     let r = shape.r;
     let i = p % (r + 1);

@@ -6,7 +6,7 @@ use Rattle.finding.proofs.found.Goals as goal
 
 pub meets-j-requires : goal.meets-j-requires
 meets-j-requires c =
-    record { limits = c.requires.limits; place = (c.requires.row (omega arith), c.requires.diagonal (omega arith)) }
+    (c.requires.row (omega arith), c.requires.diagonal (omega arith))
 
 pub returns-in-0-b : goal.returns-in-0-b
 returns-in-0-b c =

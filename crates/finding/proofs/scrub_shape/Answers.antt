@@ -10,7 +10,6 @@ use Rattle.finding.proofs.scrub_shape.Goals as goal
 pub found-finding-requires : goal.found-finding-requires
 found-finding-requires c =
     record {
-      limits = c.requires.limits;
       row = λ h. omega (arith, tallied_below _ _ _ _ c.wrong_lines-rows.ensures h);
       diagonal = λ h. omega (arith, tallied_below _ _ _ _ c.wrong_lines-diagonals.ensures h);
     }

@@ -10,7 +10,7 @@ overflow_mul-back c =
 
 pub start-o-requires : goal.start-o-requires
 start-o-requires c =
-    let below = c.meets-j.ensures.below in record { limits = c.requires.limits; stored = (omega arith, omega arith, omega arith) }
+    let below = c.meets-j.ensures.below in record { stored = (omega arith, omega arith, omega arith) }
 
 pub loop-i-init : goal.loop-i-init
 loop-i-init c =
@@ -19,7 +19,7 @@ loop-i-init c =
 pub overflow_add-o : goal.overflow_add-o
 overflow_add-o c =
     let a = c.args.shape in
-    let back : a.r * a.e ≤ 131072 = mul-le-mul c.requires.limits.r_high c.requires.limits.e_high in
+    let back : a.r * a.e ≤ 131072 = mul-le-mul c.args.shape.limits.r_high c.args.shape.limits.e_high in
     omega (arith, start_small (a.r + 1) a.e 1 (a.n - 1) (omega arith) (omega arith) (omega arith) (omega arith), c.start-wrap.ensures)
 
 pub loop-i-preserved : goal.loop-i-preserved
@@ -36,8 +36,8 @@ loop-i-preserved c =
 
 pub start-requires : goal.start-requires
 start-requires c =
-    let below = c.meets-j.ensures.below in record { limits = c.requires.limits; stored = (omega arith, omega arith, omega arith) }
+    let below = c.meets-j.ensures.below in record { stored = (omega arith, omega arith, omega arith) }
 
 pub returns : goal.returns
 returns c =
-    diagonal_all _ _ _ _ _ _ _ c.loop-i.invariant _ c.requires.diagonal.1 c.requires.limits.r_high c.loop-i-test.false c.start.ensures
+    diagonal_all _ _ _ _ _ _ _ c.loop-i.invariant _ c.requires.diagonal.1 c.args.shape.limits.r_high c.loop-i-test.false c.start.ensures

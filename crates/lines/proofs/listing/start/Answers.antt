@@ -6,7 +6,7 @@ use Rattle.lines.proofs.listing.start.Goals as goal
 
 pub overflow_mul-result : goal.overflow_mul-result
 overflow_mul-result c =
-    omega (arith, inside c.args.shape.e c.place.result _ c.place.ensures.below, bytes_most _ _ _ _ c.requires.limits)
+    omega (arith, inside c.args.shape.e c.place.result _ c.place.ensures.below, bytes_most _ _ _ _ c.args.shape.limits)
 
 pub returns : goal.returns
 returns c =

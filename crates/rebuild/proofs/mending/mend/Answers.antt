@@ -11,11 +11,11 @@ use Rattle.rebuild.proofs.mending.mend.Goals as goal
 
 pub unused_zero-requires : goal.unused_zero-requires
 unused_zero-requires c =
-    record { limits = c.requires.limits.0; size = c.requires.size }
+    record { size = c.requires.size }
 
 pub returns-then-mask-eq0 : goal.returns-then-mask-eq0
 returns-then-mask-eq0 c =
-    mends_none _ (limits_fair c.args.shape.n c.args.shape.r c.args.shape.s _ c.requires.limits.0) _ _
+    mends_none _ (limits_fair c.args.shape.n c.args.shape.r c.args.shape.s _ c.args.shape.limits) _ _
     (λ j. ap (λ (m : ℕ). lost_in m j) ((search rules)) ∙ empty_lost j) c.args.stripe.now _
     (record { size = c.requires.size; bytes = λ v lv. search rules }) (λ t. zeros 64 t) _ c.unused_zero.ensures
 
@@ -23,7 +23,7 @@ pub mend_pair-requires : goal.mend_pair-requires
 mend_pair-requires c =
     let last = c.last_lost-b.ensures in
     let ordered = first_last (lost_in c.args.mask) _ _ c.first_lost-a.ensures last in
-    let within = above_last c.args.mask c.args.shape.n _ c.requires.lost.0 last in record { limits = c.requires.limits; strips = (omega arith, omega arith); size = c.requires.size }
+    let within = above_last c.args.mask c.args.shape.n _ c.requires.lost.0 last in record { strips = (omega arith, omega arith); size = c.requires.size }
 
 pub returns : goal.returns
 returns c =

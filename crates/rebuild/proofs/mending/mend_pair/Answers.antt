@@ -8,27 +8,27 @@ use Rattle.rebuild.proofs.mending.mend_pair.Goals as goal
 
 pub run-requires : goal.run-requires
 run-requires c =
-    record { limits = c.requires.limits; strips = (omega arith, omega arith); size = c.requires.size; used = (refl, λ t. zeros 64 t) }
+    record { strips = (omega arith, omega arith); size = c.requires.size; used = (refl, λ t. zeros 64 t) }
 
 pub unused_zero-requires : goal.unused_zero-requires
 unused_zero-requires c =
-    record { limits = c.requires.limits.0; size = ran_size _ (limits_fair _ _ _ _ c.requires.limits.0) _ _ _ _ _ c.run.ensures ∙ c.requires.size }
+    record { size = ran_size _ (limits_fair _ _ _ _ c.args.shape.limits) _ _ _ _ _ c.run.ensures ∙ c.requires.size }
 
 pub returns-then-unused_zero : goal.returns-then-unused_zero
 returns-then-unused_zero c =
     record {
-      mended = λ z. ran_mended _ (limits_fair _ _ _ _ c.requires.limits.0) _ _ _ _ _ c.run.ensures (record { size = c.requires.size; bytes = λ v lv. search rules })
+      mended = λ z. ran_mended _ (limits_fair _ _ _ _ c.args.shape.limits) _ _ _ _ _ c.run.ensures (record { size = c.requires.size; bytes = λ v lv. search rules })
           (c.unused_zero.ensures.passed (search rules));
       cleared = λ z. clash (sym z);
     }
 
 pub clear-requires : goal.clear-requires
 clear-requires c =
-    record { limits = c.requires.limits.0; strip = omega arith; size = ran_size _ (limits_fair _ _ _ _ c.requires.limits.0) _ _ _ _ _ c.run.ensures ∙ c.requires.size }
+    record { strip = omega arith; size = ran_size _ (limits_fair _ _ _ _ c.args.shape.limits) _ _ _ _ _ c.run.ensures ∙ c.requires.size }
 
 pub clear-requires-2 : goal.clear-requires-2
 clear-requires-2 c =
-    record { limits = c.requires.limits.0; strip = omega arith; size = c.clear.ensures.size ∙ ran_size _ (limits_fair _ _ _ _ c.requires.limits.0) _ _ _ _ _ c.run.ensures ∙ c.requires.size }
+    record { strip = omega arith; size = c.clear.ensures.size ∙ ran_size _ (limits_fair _ _ _ _ c.args.shape.limits) _ _ _ _ _ c.run.ensures ∙ c.requires.size }
 
 pub returns : goal.returns
 returns c =
@@ -37,6 +37,6 @@ returns c =
     let second = c.clear-2.ensures in
     record {
       mended = λ z. clash z;
-      cleared = λ z. ran_cleared _ (limits_fair _ _ _ _ c.requires.limits.0) _ _ _ _ _ c.run.ensures failed.t failed.byte failed.is_line failed.in_element failed.wrong _
+      cleared = λ z. ran_cleared _ (limits_fair _ _ _ _ c.args.shape.limits) _ _ _ _ _ c.run.ensures failed.t failed.byte failed.is_line failed.in_element failed.wrong _
           (both_kept _ _ _ _ _ _ _ first second) (both_zero _ _ _ _ _ _ _ first second);
     }

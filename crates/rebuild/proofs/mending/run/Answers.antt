@@ -10,7 +10,7 @@ use Rattle.rebuild.proofs.mending.run.Goals as goal
 
 pub walk-walked-requires : goal.walk-walked-requires
 walk-walked-requires c =
-    let l = c.requires.limits.0 in
+    let l = c.args.shape.limits in
     let fair = limits_fair c.args.shape.n c.args.shape.r c.args.shape.s _ l in (
       record { strips = l.n_high; rows = l.r_high; ordered = omega arith; within = omega arith },
       drawn_fair _ _ (shift c.args.shape.n c.args.shape.r c.args.shape.s) fair
@@ -21,20 +21,19 @@ walk-walked-requires c =
 pub run_steps-requires : goal.run_steps-requires
 run_steps-requires c =
     record {
-      limits = c.requires.limits.0;
-      steps = (omega (arith, c.walk-walked.ensures.room, c.requires.limits.0.r_high), walk_shaped _ _ _ _ _ c.walk-walked.ensures);
+      steps = (omega (arith, c.walk-walked.ensures.room, c.args.shape.limits.r_high), walk_shaped _ _ _ _ _ c.walk-walked.ensures);
       size = c.requires.size;
       used = c.requires.used;
     }
 
 pub returns : goal.returns
 returns c =
-    let l = c.requires.limits.0 in
+    let l = c.args.shape.limits in
     let ran = c.run_steps.ensures in
     record {
       plan = _;
       count = _;
-      planned = whole_plan c.args.shape.n c.args.shape.r c.args.shape.s c.args.shape.e l c.requires.limits.1 _ _ c.map_of-map.ensures
+      planned = whole_plan c.args.shape.n c.args.shape.r c.args.shape.s c.args.shape.e l c.requires.good _ _ c.map_of-map.ensures
           c.homes-home.ensures c.args.a c.args.b c.requires.strips.0 c.requires.strips.1 _ _ _ c.walk-walked.ensures;
       run = ran.run;
       marks = ran.marks;

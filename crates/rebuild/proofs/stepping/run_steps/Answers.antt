@@ -19,7 +19,6 @@ loop-k-init c =
 pub run_step-t-requires : goal.run_step-t-requires
 run_step-t-requires c =
     record {
-      limits = c.requires.limits;
       shaped = subst (Shaped c.args.shape.n c.args.shape.r) (the_step c.args.steps.now c.loop-k.k _ _ c.wide-row.ensures c.wide-strip.ensures)
           (c.requires.steps.1 c.loop-k.k (omega arith));
       size = c.loop-k.invariant.1.size ∙ c.requires.size;

@@ -15,11 +15,11 @@ returns-then-mask-eq0 c =
 pub ruin_strip-requires : goal.ruin_strip-requires
 ruin_strip-requires c =
     let last = above_last c.args.mask c.args.shape.n _ c.requires.lost.0 c.last_lost-b.ensures in
-    record { limits = c.requires.limits; strip = omega (arith, first_last (lost_in c.args.mask) _ _ c.first_lost-a.ensures c.last_lost-b.ensures); size = c.requires.size }
+    record { strip = omega (arith, first_last (lost_in c.args.mask) _ _ c.first_lost-a.ensures c.last_lost-b.ensures); size = c.requires.size }
 
 pub ruin_strip-requires-2 : goal.ruin_strip-requires-2
 ruin_strip-requires-2 c =
-    record { limits = c.requires.limits; strip = above_last c.args.mask c.args.shape.n _ c.requires.lost.0 c.last_lost-b.ensures; size = c.ruin_strip.ensures.kept.size ∙ c.requires.size }
+    record { strip = above_last c.args.mask c.args.shape.n _ c.requires.lost.0 c.last_lost-b.ensures; size = c.ruin_strip.ensures.kept.size ∙ c.requires.size }
 
 pub returns : goal.returns
 returns c =

@@ -7,16 +7,16 @@ use Rattle.worked.proofs.unused.line_of.Goals as goal
 
 pub diagonal-requires : goal.diagonal-requires
 diagonal-requires c =
-    let w = two_where _ (limits_fair _ _ _ _ c.requires.limits) (step c.args.kind c.args.row c.args.strip) c.requires.shaped (omega arith) in record { limits = c.requires.limits; place = (w.0, w.1) }
+    let w = two_where _ (limits_fair _ _ _ _ c.args.shape.limits) (step c.args.kind c.args.row c.args.strip) c.requires.shaped (omega arith) in record { place = (w.0, w.1) }
 
 pub overflow_add-result-then-kind-eq4 : goal.overflow_add-result-then-kind-eq4
 overflow_add-result-then-kind-eq4 c =
-    omega (arith, (four_where _ (limits_fair _ _ _ _ c.requires.limits) (step c.args.kind c.args.row c.args.strip) c.requires.shaped (omega arith)).0)
+    omega (arith, (four_where _ (limits_fair _ _ _ _ c.args.shape.limits) (step c.args.kind c.args.row c.args.strip) c.requires.shaped (omega arith)).0)
 
 pub returns-then-kind-eq4 : goal.returns-then-kind-eq4
 returns-then-kind-eq4 c =
-    omega (arith, (four_where _ (limits_fair _ _ _ _ c.requires.limits) (step c.args.kind c.args.row c.args.strip) c.requires.shaped (omega arith)).0)
+    omega (arith, (four_where _ (limits_fair _ _ _ _ c.args.shape.limits) (step c.args.kind c.args.row c.args.strip) c.requires.shaped (omega arith)).0)
 
 pub returns : goal.returns
 returns c =
-    omega (arith, (else_where _ (limits_fair _ _ _ _ c.requires.limits) (step c.args.kind c.args.row c.args.strip) c.requires.shaped (λ q. omega arith) (λ q. omega arith)).below)
+    omega (arith, (else_where _ (limits_fair _ _ _ _ c.args.shape.limits) (step c.args.kind c.args.row c.args.strip) c.requires.shaped (λ q. omega arith) (λ q. omega arith)).below)

@@ -10,7 +10,7 @@ use Rattle.worked.proofs.unused.used_lines.Goals as goal
 
 pub walk-walked-requires : goal.walk-walked-requires
 walk-walked-requires c =
-    let l = c.requires.limits in
+    let l = c.args.shape.limits in
     let fair = limits_fair c.args.shape.n c.args.shape.r c.args.shape.s _ l in (
       record { strips = l.n_high; rows = l.r_high; ordered = c.requires.strips.0; within = c.requires.strips.1 },
       drawn_fair _ _ (shift c.args.shape.n c.args.shape.r c.args.shape.s) fair
@@ -20,4 +20,4 @@ walk-walked-requires c =
 
 pub mark-requires : goal.mark-requires
 mark-requires c =
-    let walked = c.walk-walked.ensures in record { limits = c.requires.limits; steps = (walked.room, walk_shaped _ _ _ _ _ walked) }
+    let walked = c.walk-walked.ensures in record { steps = (walked.room, walk_shaped _ _ _ _ _ walked) }
