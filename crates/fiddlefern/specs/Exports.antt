@@ -6,11 +6,7 @@ use Rattle.code.specs.Below.{count}
 use Rattle.code.specs.Layout.{X}
 use Rattle.code.specs.Shift.{shift}
 use Rattle.shape.specs.declared.shapes.Shape.{Shape}
-use Rattle.shape.specs.declared.Judged.{Judged}
-use Rattle.shape.specs.declared.Judged.TheVariants.{Good, Refused}
 use Rattle.shape.specs.declared.refusal.Refusal.{Refusal}
-use Rattle.shape.specs.declared.refusal.Answer.{Answer}
-use Rattle.shape.specs.declared.refusal.Answer.TheVariants as answer
 use Rattle.shape.specs.Refusal.{lower_of, upper_of}
 use Rattle.shape.specs.Answers.{bytes_most}
 use Rattle.shape.specs.Call.{call_number, answer_number, Answered}
@@ -18,8 +14,6 @@ use Rattle.shape.specs.Judge.{Judges}
 use Rattle.shape.specs.JudgedCall.{good_limits, answered_small}
 use Rattle.shape.specs.Mask.{lost_in, above_test}
 use Rattle.finding.specs.declared.Finding.{Finding}
-use Rattle.stripe.specs.declared.scrubbing.Scrubbed.{Scrubbed}
-use Rattle.stripe.specs.declared.scrubbing.Scrubbed.TheVariants as scrubbed
 use Rattle.stripe.specs.Encode.{Encodes}
 use Rattle.stripe.specs.Write.{place_outside, Writes}
 use Rattle.stripe.specs.Read.{read_number}
@@ -38,7 +32,7 @@ module _ (n r s e : ℕ) (x : Judged) (j : Judges n r s e x) where
   pub answer_good : (h : Shape) (b : ℕ) → x ≡ Good h b → JudgeAnswer n r s e (b * 4294967296)
   answer_good h b q = record { judged = x; judges = j; packed = sym (ap judged_packed q) }
 
-  pub answer_refused : (y : Refusal) → x ≡ Refused y → (k : ℕ) → k ≡ refusal_packed y → JudgeAnswer n r s e k
+  pub answer_refused : (y : Refusal) → x ≡ Err y → (k : ℕ) → k ≡ refusal_packed y → JudgeAnswer n r s e k
   answer_refused y q k z = record { judged = x; judges = j; packed = z ∙ sym (ap judged_packed q) }
 
 -- ---- encode, write and rebuild
@@ -62,10 +56,10 @@ rebuild_small n r s e mask before after x a =
 -- ---- read
 
 module _ (n r s e i j : ℕ) (b : List ℕ) (x : Answer) (a : Answered n r s (read_number n r s e (length b) i j) x) where
-  pub check_small : (y : Refusal) → x ≡ answer.Refused y → (lower_of y ≤ 32) × (upper_of y ≤ 32)
+  pub check_small : (y : Refusal) → x ≡ Err y → (lower_of y ≤ 32) × (upper_of y ≤ 32)
   check_small y q = (answer_small n r s e (length b) (pick (place_outside n r e i j 0 0) 9 0) x a).pair y q
 
-  module _ (q : x ≡ answer.Done) where
+  module _ (q : x ≡ Ok tt) where
     accepted : Accepted n r s e (length b) i j 0 0
     accepted = number_accepted n r s e (length b) i j 0 0 (sym a.is ∙ ap answer_number q)
 
@@ -85,7 +79,7 @@ module _ (n r s e i j : ℕ) (b : List ℕ) (x : Answer) (a : Answered n r s (re
     pub read_done : ReadAnswer n r s e i j b ((j * (r + 1) + i) * e * 4294967296)
     read_done = record { answer = x; answered = a; packed = sym (ap (answer_packed (X (shift n r s) i j * e)) q) }
 
-  pub read_refused : (y : Refusal) → x ≡ answer.Refused y → (k : ℕ) → k ≡ refusal_packed y → ReadAnswer n r s e i j b k
+  pub read_refused : (y : Refusal) → x ≡ Err y → (k : ℕ) → k ≡ refusal_packed y → ReadAnswer n r s e i j b k
   read_refused y q k z = record { answer = x; answered = a; packed = z ∙ sym (ap (answer_packed (X (shift n r s) i j * e)) q) }
 
 -- ---- scrub
@@ -94,5 +88,5 @@ module _ (n r s e : ℕ) (b : List ℕ) (x : Scrubbed) (c : Scrubs n r s e b x) 
   pub scrub_counted : (p q : ℕ) (f : Finding) → x ≡ scrubbed.Counted p q f → (k : ℕ) → k ≡ counted_packed p q f → ScrubAnswer n r s e b k
   scrub_counted p q f w k z = record { scrubbed = x; scrubs = c; packed = z ∙ sym (ap scrubbed_packed w) }
 
-  pub scrub_refused : (y : Refusal) → x ≡ scrubbed.Refused y → (k : ℕ) → k ≡ refusal_packed y → ScrubAnswer n r s e b k
+  pub scrub_refused : (y : Refusal) → x ≡ Err y → (k : ℕ) → k ≡ refusal_packed y → ScrubAnswer n r s e b k
   scrub_refused y w k z = record { scrubbed = x; scrubs = c; packed = z ∙ sym (ap scrubbed_packed w) }

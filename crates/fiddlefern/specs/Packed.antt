@@ -3,18 +3,12 @@
 use Rattle.std.specs.Prelude.{◌≡◌, List, ℕ, ◌+◌, ◌*◌, ◌≤◌, length}
 use Rattle.code.specs.Layout.{X}
 use Rattle.code.specs.Shift.{shift}
-use Rattle.shape.specs.declared.Judged.{Judged}
-use Rattle.shape.specs.declared.Judged.TheVariants.{Good, Refused}
 use Rattle.shape.specs.declared.refusal.Refusal.{Refusal}
-use Rattle.shape.specs.declared.refusal.Answer.{Answer}
-use Rattle.shape.specs.declared.refusal.Answer.TheVariants as answer
 use Rattle.shape.specs.Refusal.{number_of, lower_of, upper_of}
 use Rattle.shape.specs.Judge.{Judges}
 use Rattle.shape.specs.Call.{Answered}
 use Rattle.finding.specs.declared.Finding.{Finding}
 use Rattle.finding.specs.declared.Finding.TheVariants as finding
-use Rattle.stripe.specs.declared.scrubbing.Scrubbed.{Scrubbed}
-use Rattle.stripe.specs.declared.scrubbing.Scrubbed.TheVariants as scrubbed
 use Rattle.stripe.specs.Encode.{Encodes}
 use Rattle.stripe.specs.Write.{Writes}
 use Rattle.stripe.specs.Read.{read_number}
@@ -25,13 +19,13 @@ abbrev pub refusal_packed : Refusal → ℕ
 refusal_packed x = number_of x + lower_of x * 256 + upper_of x * 65536
 
 abbrev pub judged_packed : Judged → ℕ
-judged_packed (Good h b) = b * 4294967296
-judged_packed (Refused x) = refusal_packed x
+judged_packed (Ok (h, b)) = b * 4294967296
+judged_packed (Err x) = refusal_packed x
 
 -- encode, write and rebuild, and read with v the offset of the element: what comes with 0
 abbrev pub answer_packed : ℕ → Answer → ℕ
-answer_packed v answer.Done = v * 4294967296
-answer_packed v (answer.Refused x) = refusal_packed x
+answer_packed v (Ok tt) = v * 4294967296
+answer_packed v (Err x) = refusal_packed x
 
 -- a finding's number, the row that comes with it, and the diagonal or the strip; 0 where none does
 abbrev pub finding_values : Finding → ℕ × ℕ × ℕ
@@ -50,7 +44,7 @@ counted_packed a b f =
 
 abbrev pub scrubbed_packed : Scrubbed → ℕ
 scrubbed_packed (scrubbed.Counted a b f) = counted_packed a b f
-scrubbed_packed (scrubbed.Refused x) = refusal_packed x
+scrubbed_packed (Err x) = refusal_packed x
 
 -- the version of the archive: major, minor, patch
 abbrev pub version : ℕ × ℕ × ℕ
@@ -63,7 +57,7 @@ version_packed v = v.0 * 65536 + v.1 * 256 + v.2
 -- ---- what is small enough to be packed
 
 pub record SmallAnswer (x : Answer) : Type 0 where
-  pub pair : (y : Refusal) → x ≡ answer.Refused y → (lower_of y ≤ 32) × (upper_of y ≤ 32)
+  pub pair : (y : Refusal) → x ≡ Err y → (lower_of y ≤ 32) × (upper_of y ≤ 32)
 
 pub record SmallFinding (f : Finding) : Type 0 where
   pub row : (finding_values f).1 ≤ 32

@@ -13,8 +13,6 @@ use Rattle.shape.specs.JudgedCall.{named_small}
 use Rattle.finding.specs.declared.Finding.{Finding}
 use Rattle.finding.specs.declared.Finding.TheVariants as finding
 use Rattle.finding.specs.Found.{wrong_row, wrong_diagonal, found_of, found}
-use Rattle.stripe.specs.declared.scrubbing.Scrubbed.{Scrubbed}
-use Rattle.stripe.specs.declared.scrubbing.Scrubbed.TheVariants.{Counted, Refused}
 use Rattle.stripe.specs.Scrub.{scrubbed_number, Scrubs}
 use Rattle.stripe.specs.OpenedLaws.{call_zero}
 use Rattle.fiddlefern.specs.Packed.{finding_values, SmallFinding}
@@ -81,5 +79,5 @@ module _ (n r s e : ℕ) (b : List ℕ) (x : Scrubbed) (c : Scrubs n r s e b x) 
     pub finding_small : SmallFinding f
     finding_small = subst SmallFinding (sym (c.finds p q f w)) (found_small n r s e b limits)
 
-  pub refusal_small : (y : Refusal) → x ≡ Refused y → (lower_of y ≤ 32) × (upper_of y ≤ 32)
+  pub refusal_small : (y : Refusal) → x ≡ Err y → (lower_of y ≤ 32) × (upper_of y ≤ 32)
   refusal_small y w = named_small n r s e _ y (sym (ap scrubbed_number w) ∙ c.number) (c.named y w)

@@ -8,10 +8,6 @@ use Rattle.code.specs.Shift.{shift}
 use Rattle.shape.specs.declared.shapes.Shape.{Shape}
 use Rattle.shape.specs.declared.refusal.Refusal.{Refusal}
 use Rattle.shape.specs.declared.refusal.Refusal.TheVariants.{Mask, Many, NoSound}
-use Rattle.shape.specs.declared.refusal.Answer.{Answer}
-use Rattle.shape.specs.declared.refusal.Answer.TheVariants.{Done, Refused}
-use Rattle.shape.specs.declared.Judged.{Judged}
-use Rattle.shape.specs.declared.Judged.TheVariants as judged
 use Rattle.shape.specs.Limits.{Limits}
 use Rattle.shape.specs.Mask.{lost_in, above_test}
 use Rattle.shape.specs.Judge.{judged_answer}
@@ -23,10 +19,10 @@ use Rattle.rebuild.specs.PlanRun.{Mends}
 
 module _ (n r s e mask : ℕ) (b : List ℕ) (x : Judged) (o : Opens n r s e (length b) x) where
   -- lines 1 to 6
-  pub rebuild_refused : (y : Refusal) → x ≡ judged.Refused y → (a : Answer) → a ≡ judged_answer x → Rebuilds n r s e mask b b a
+  pub rebuild_refused : (y : Refusal) → x ≡ Err y → (a : Answer) → a ≡ judged_answer x → Rebuilds n r s e mask b b a
   rebuild_refused y q a w = subst (Rebuilds n r s e mask b b) (sym (w ∙ ap judged_answer q)) (rebuilds_opened n r s e mask b y (o.refused y q))
 
-  module _ (h : Shape) (c : ℕ) (q : x ≡ judged.Good h c) where
+  module _ (h : Shape) (c : ℕ) (q : x ≡ Ok (h, c)) where
     -- what holds of the shape's numbers holds of the four, and back
     from_shape : (P : ℕ → ℕ → ℕ → ℕ → Type 0) → P h.n h.r h.s h.e → P n r s e
     from_shape P p = subst (λ (g : Shape). P g.n g.r g.s g.e) (o.opened h c q).shape p
@@ -35,10 +31,10 @@ module _ (n r s e mask : ℕ) (b : List ℕ) (x : Judged) (o : Opens n r s e (le
     to_shape P p = subst (λ (g : Shape). P g.n g.r g.s g.e) (sym (o.opened h c q).shape) p
 
     -- lines 7 and 8
-    pub mask_refused : above_test mask n ≡ true → Rebuilds n r s e mask b b (Refused Mask)
+    pub mask_refused : above_test mask n ≡ true → Rebuilds n r s e mask b b (Err Mask)
     mask_refused t = rebuilds_above n r s e mask b (o.opened h c q).limits (o.opened h c q).good (o.opened h c q).sized t
 
-    pub many_refused : above_test mask n ≡ false → 2 < count 64 (lost_in mask) → Rebuilds n r s e mask b b (Refused Many)
+    pub many_refused : above_test mask n ≡ false → 2 < count 64 (lost_in mask) → Rebuilds n r s e mask b b (Err Many)
     many_refused t m = rebuilds_many n r s e mask b (o.opened h c q).limits (o.opened h c q).good (o.opened h c q).sized t m
 
     -- what mend asks, and what it says of the call
@@ -56,8 +52,8 @@ module _ (n r s e mask : ℕ) (b : List ℕ) (x : Judged) (o : Opens n r s e (le
       shape_size = to_shape (λ n r s e. length b ≡ e * places (shift n r s)) (o.opened h c q).sized
 
       module _ (a : List ℕ) (y : Bool) (m : Mends (shift h.n h.r h.s) h.e (lost_in mask) b a y) where
-        pub mend_done : y ≡ true → Rebuilds n r s e mask b a Done
+        pub mend_done : y ≡ true → Rebuilds n r s e mask b a (Ok tt)
         mend_done z = rebuilds_done n r s e mask b a accepted ((from_shape (λ n r s e. Mends (shift n r s) e (lost_in mask) b a y) m).mended z)
 
-        pub mend_none : y ≡ false → Rebuilds n r s e mask b a (Refused NoSound)
+        pub mend_none : y ≡ false → Rebuilds n r s e mask b a (Err NoSound)
         mend_none z = rebuilds_none n r s e mask b a accepted ((from_shape (λ n r s e. Mends (shift n r s) e (lost_in mask) b a y) m).cleared z)

@@ -10,7 +10,6 @@ use Rattle.code.specs.SumLaws.{clash}
 use Rattle.code.specs.Sound.{Stripe}
 use Rattle.code.specs.Shift.{shift}
 use Rattle.shape.specs.declared.refusal.Refusal.TheVariants.{NoSound}
-use Rattle.shape.specs.declared.refusal.Answer.TheVariants.{Done, Refused}
 use Rattle.shape.specs.Mask.{lost_in}
 use Rattle.rebuild.specs.Rebuild.{Kept, Agreeable, is_mended, is_cleared}
 use Rattle.rebuild.specs.RebuildNumber.{Accepted}
@@ -83,8 +82,8 @@ mends_none L F e lost none s used bytes clean x y =
 pub mends_determined : (n r s e mask : ℕ) (b a c : List ℕ) (x y : Bool) → Accepted n r s e (length b) mask
     → Mends (shift n r s) e (lost_in mask) b a x → Mends (shift n r s) e (lost_in mask) b c y → (x ≡ y) × (a ≡ c)
 mends_determined n r s e mask b a c true true k p q =
-    (refl, (ended_same n r s e mask b k a c Done Done (is_mended (p.mended refl)) (is_mended (q.mended refl))).1)
+    (refl, (ended_same n r s e mask b k a c (Ok tt) (Ok tt) (is_mended (p.mended refl)) (is_mended (q.mended refl))).1)
 mends_determined n r s e mask b a c true false k p q = absurd ((q.cleared refl).none (mended_agreeable (shift n r s) e (lost_in mask) b a (p.mended refl)))
 mends_determined n r s e mask b a c false true k p q = absurd ((p.cleared refl).none (mended_agreeable (shift n r s) e (lost_in mask) b c (q.mended refl)))
 mends_determined n r s e mask b a c false false k p q =
-    (refl, (ended_same n r s e mask b k a c (Refused NoSound) (Refused NoSound) (is_cleared (p.cleared refl)) (is_cleared (q.cleared refl))).1)
+    (refl, (ended_same n r s e mask b k a c (Err NoSound) (Err NoSound) (is_cleared (p.cleared refl)) (is_cleared (q.cleared refl))).1)

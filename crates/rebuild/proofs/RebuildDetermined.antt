@@ -10,8 +10,6 @@ use Rattle.code.specs.Sound.{SoundStripe}
 use Rattle.code.specs.Shift.{shift}
 use Rattle.code.specs.Bound.{Good}
 use Rattle.shape.specs.declared.refusal.Refusal.TheVariants.{Place, NoSound}
-use Rattle.shape.specs.declared.refusal.Answer.{Answer}
-use Rattle.shape.specs.declared.refusal.Answer.TheVariants.{Done, Refused}
 use Rattle.shape.specs.Refusal.{number_of}
 use Rattle.shape.specs.Limits.{Limits}
 use Rattle.shape.specs.Mask.{lost_in}
@@ -70,8 +68,8 @@ early_kept n r s e mask b a x w z low high h = go x refl
     is = w.answer.is ∙ h (last_of x)
 
     go : (v : Answer) → x ≡ v → a ≡ b
-    go Done q = absurd (omega (arith, sym (ap answer_number q) ∙ is))
-    go (Refused y) q = w.refused y q (λ v. omega (arith, sym (ap number_of v) ∙ sym (ap answer_number q) ∙ is))
+    go (Ok tt) q = absurd (omega (arith, sym (ap answer_number q) ∙ is))
+    go (Err y) q = w.refused y q (λ v. omega (arith, sym (ap number_of v) ∙ sym (ap answer_number q) ∙ is))
 
 pub rebuild_determined : (n r s e mask : ℕ) (b a c : List ℕ) (x y : Answer) → Rebuilds n r s e mask b a x → Rebuilds n r s e mask b c y → (x ≡ y) × (a ≡ c)
 rebuild_determined n r s e mask b a c x y p q = go (numbered n r s e (length b) mask)
@@ -84,7 +82,7 @@ rebuild_determined n r s e mask b a c x y p q = go (numbered n r s e (length b) 
     go (early z low high h) = (both.0, early_kept n r s e mask b a x p z low high h ∙ sym (early_kept n r s e mask b c y q z low high h))
 
 -- 9 is never given: the call asks for no place
-pub rebuild_never_nine : (n r s e mask : ℕ) (b a : List ℕ) → Rebuilds n r s e mask b a (Refused Place) → ⊥
+pub rebuild_never_nine : (n r s e mask : ℕ) (b a : List ℕ) → Rebuilds n r s e mask b a (Err Place) → ⊥
 rebuild_never_nine n r s e mask b a w = go w.answer.is (numbered n r s e (length b) mask)
   where
     go : 9 ≡ rebuild_number n r s e (length b) mask 10 → Numbered n r s e (length b) mask → ⊥
@@ -95,7 +93,7 @@ rebuild_never_nine n r s e mask b a w = go w.answer.is (numbered n r s e (length
 
 -- nothing changes; 0 on a sound stripe, 10 on another
 pub rebuild_empty : (n r s e : ℕ) (b a : List ℕ) (x : Answer) → Limits n r s e → Good n r s → length b ≡ bytes_of n r e → Rebuilds n r s e 0 b a x
-    → (a ≡ b) × ((x ≡ Done) ↔ SoundStripe (shift n r s) e b) × ((x ≡ Refused NoSound) ↔ (SoundStripe (shift n r s) e b → ⊥))
+    → (a ≡ b) × ((x ≡ Ok tt) ↔ SoundStripe (shift n r s) e b) × ((x ≡ Err NoSound) ↔ (SoundStripe (shift n r s) e b → ⊥))
 rebuild_empty n r s e b a x l g q w = (
   changed x (ended n r s e 0 b k a x w),
   (λ z. sound ((rebuild_done n r s e 0 b k a x w).0 z), λ h. (rebuild_done n r s e 0 b k a x w).1 (agree h)),

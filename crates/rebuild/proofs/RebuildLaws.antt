@@ -10,8 +10,6 @@ use Rattle.code.specs.Shift.{shift}
 use Rattle.code.specs.Lookalikes.{sized_same, decided_stripe}
 use Rattle.shape.specs.declared.refusal.Refusal.{Refusal}
 use Rattle.shape.specs.declared.refusal.Refusal.TheVariants.{NoSound}
-use Rattle.shape.specs.declared.refusal.Answer.{Answer}
-use Rattle.shape.specs.declared.refusal.Answer.TheVariants.{Done, Refused}
 use Rattle.shape.specs.Refusal.{number_of, number_determined}
 use Rattle.shape.specs.Mask.{lost_in}
 use Rattle.shape.specs.Call.{answer_number}
@@ -61,14 +59,14 @@ module _ (n r s e mask : ℕ) (b : List ℕ) (k : Accepted n r s e (length b) ma
   ended a x w = go x refl (w.answer.is ∙ accepted_number n r s e (length b) mask (last_of x) k)
     where
       go : (z : Answer) → x ≡ z → answer_number x ≡ last_of x → Ended (shift n r s) e (lost_in mask) b a z
-      go Done q h = is_mended (w.done q)
-      go (Refused y) q h = at (number_determined y NoSound (λ z. omega (arith, ten)) ten)
+      go (Ok tt) q h = is_mended (w.done q)
+      go (Err y) q h = at (number_determined y NoSound (λ z. omega (arith, ten)) ten)
         where
           ten : number_of y ≡ 10
           ten = ap answer_number (sym q) ∙ h ∙ ap last_of q
 
-          at : y ≡ NoSound → Ended (shift n r s) e (lost_in mask) b a (Refused y)
-          at z = subst (λ (v : Refusal). Ended (shift n r s) e (lost_in mask) b a (Refused v)) (sym z) (is_cleared (w.none (q ∙ ap Refused z)))
+          at : y ≡ NoSound → Ended (shift n r s) e (lost_in mask) b a (Err y)
+          at z = subst (λ (v : Refusal). Ended (shift n r s) e (lost_in mask) b a (Err v)) (sym z) (is_cleared (w.none (q ∙ ap Err z)))
 
   -- at most one sound stripe has the survivors
   pub mended_same : (a c : List ℕ) → Mended (shift n r s) e (lost_in mask) b a → Mended (shift n r s) e (lost_in mask) b c → a ≡ c
@@ -90,28 +88,28 @@ module _ (n r s e mask : ℕ) (b : List ℕ) (k : Accepted n r s e (length b) ma
 
   module _ (a : List ℕ) (x : Answer) (w : Rebuilds n r s e mask b a x) where
     -- done exactly when some sound stripe agrees with the survivors
-    pub rebuild_done : (x ≡ Done) ↔ Agreeable (shift n r s) e (lost_in mask) b
+    pub rebuild_done : (x ≡ Ok tt) ↔ Agreeable (shift n r s) e (lost_in mask) b
     rebuild_done = go x (ended a x w)
       where
-        go : (z : Answer) → Ended (shift n r s) e (lost_in mask) b a z → (z ≡ Done) ↔ Agreeable (shift n r s) e (lost_in mask) b
+        go : (z : Answer) → Ended (shift n r s) e (lost_in mask) b a z → (z ≡ Ok tt) ↔ Agreeable (shift n r s) e (lost_in mask) b
         go z (is_mended m) = (λ q. mended_agreeable (shift n r s) e (lost_in mask) b a m, λ g. refl)
         go z (is_cleared c) = (λ q. done_refused NoSound (sym q), λ g. absurd (c.none g))
 
     -- 10 exactly when none does
-    pub rebuild_exactly : (x ≡ Refused NoSound) ↔ (Agreeable (shift n r s) e (lost_in mask) b → ⊥)
+    pub rebuild_exactly : (x ≡ Err NoSound) ↔ (Agreeable (shift n r s) e (lost_in mask) b → ⊥)
     rebuild_exactly = go x (ended a x w)
       where
-        go : (z : Answer) → Ended (shift n r s) e (lost_in mask) b a z → (z ≡ Refused NoSound) ↔ (Agreeable (shift n r s) e (lost_in mask) b → ⊥)
+        go : (z : Answer) → Ended (shift n r s) e (lost_in mask) b a z → (z ≡ Err NoSound) ↔ (Agreeable (shift n r s) e (lost_in mask) b → ⊥)
         go z (is_mended m) = (λ q. done_refused NoSound q, λ f. absurd (f (mended_agreeable (shift n r s) e (lost_in mask) b a m)))
         go z (is_cleared c) = (λ q. c.none, λ f. refl)
 
     -- a sound stripe with anything in its lost strips: the answer is 0, and the stripe is back
-    pub rebuild_gives : (t : List ℕ) → SoundStripe (shift n r s) e t → Kept (shift n r s) e (lost_in mask) t b → (x ≡ Done) × (a ≡ t)
+    pub rebuild_gives : (t : List ℕ) → SoundStripe (shift n r s) e t → Kept (shift n r s) e (lost_in mask) t b → (x ≡ Ok tt) × (a ≡ t)
     rebuild_gives t sound kept = go x (ended a x w)
       where
         back : Kept (shift n r s) e (lost_in mask) b t
         back = kept_sym (shift n r s) e (lost_in mask) t b kept
 
-        go : (z : Answer) → Ended (shift n r s) e (lost_in mask) b a z → (z ≡ Done) × (a ≡ t)
+        go : (z : Answer) → Ended (shift n r s) e (lost_in mask) b a z → (z ≡ Ok tt) × (a ≡ t)
         go z (is_mended m) = (refl, mended_same a t m (record { kept = back; sound = sound }))
         go z (is_cleared c) = absurd (c.none (record { stripe = t; sound = sound; agree = back.survivors }))

@@ -11,8 +11,6 @@ use Rattle.code.specs.Sound.{SoundStripe}
 use Rattle.code.specs.Shift.{shift}
 use Rattle.shape.specs.declared.refusal.Refusal.{Refusal}
 use Rattle.shape.specs.declared.refusal.Refusal.TheVariants.{NoSound}
-use Rattle.shape.specs.declared.refusal.Answer.{Answer}
-use Rattle.shape.specs.declared.refusal.Answer.TheVariants.{Done, Refused}
 use Rattle.shape.specs.Mask.{lost_in, above_test}
 use Rattle.shape.specs.Call.{call_number, Answered}
 
@@ -23,8 +21,8 @@ rebuild_number n r s e len mask last =
 
 -- what comes last, where none of 1 to 8 holds: 0 where it is done, 10 where it is not; done and none below say when
 abbrev pub last_of : Answer → ℕ
-last_of Done = 0
-last_of (Refused y) = 10
+last_of (Ok tt) = 0
+last_of (Err y) = 10
 
 -- after has the length and every survivor of before
 pub record Kept (L : Layout) (e : ℕ) (lost : ℕ → Bool) (before after : List ℕ) : Type 0 where
@@ -51,11 +49,11 @@ pub record Cleared (L : Layout) (e : ℕ) (lost : ℕ → Bool) (before after : 
 -- rebuild on the buffer before leaves after and answers x: 0 to 8, or 10
 pub record Rebuilds (n r s e mask : ℕ) (before after : List ℕ) (x : Answer) : Type 0 where
   pub answer : Answered n r s (rebuild_number n r s e (length before) mask (last_of x)) x
-  pub done : x ≡ Done → Mended (shift n r s) e (lost_in mask) before after
-  pub none : x ≡ Refused NoSound → Cleared (shift n r s) e (lost_in mask) before after
-  pub refused : (y : Refusal) → x ≡ Refused y → y ≢ NoSound → after ≡ before
+  pub done : x ≡ Ok tt → Mended (shift n r s) e (lost_in mask) before after
+  pub none : x ≡ Err NoSound → Cleared (shift n r s) e (lost_in mask) before after
+  pub refused : (y : Refusal) → x ≡ Err y → y ≢ NoSound → after ≡ before
 
 -- it is done or it clears
 pub data Ended (L : Layout) (e : ℕ) (lost : ℕ → Bool) (before after : List ℕ) : Answer → Type 0 where
-  is_mended : Mended L e lost before after → Ended L e lost before after Done
-  is_cleared : Cleared L e lost before after → Ended L e lost before after (Refused NoSound)
+  is_mended : Mended L e lost before after → Ended L e lost before after (Ok tt)
+  is_cleared : Cleared L e lost before after → Ended L e lost before after (Err NoSound)

@@ -17,7 +17,7 @@ use Rattle.shape.specs.CallLaws.{named_same}
 use Rattle.shape.specs.Limits.{Limits}
 use Rattle.shape.specs.Within.{ShapeOf, Within}
 use Rattle.shape.specs.LimitsLaws.{limits_number}
-use Rattle.shape.specs.WithinLaws.{refused_number, shape_same}
+use Rattle.shape.specs.WithinLaws.{refused_number, shape_same, of_shape}
 use Rattle.shape.specs.GoodTest.{good_test, good_tested, weak_tested}
 use Rattle.shape.specs.Judge.{shape_number, Judged, judged_number, Judges}
 use Rattle.shape.specs.Pairs.{NoPair}
@@ -73,11 +73,7 @@ module _ (n r s e : ℕ) where
 
   -- a shape that within let through is that of the four numbers
   pub judges_inside : (y : Result Shape Refusal) → Within n r s e y → (h : Shape) → y ≡ Ok h → (x : Judged) → Judges h.n h.r h.s h.e x → Judges n r s e x
-  judges_inside y w h q x j =
-      let v = w.shape h q in
-      subst (λ (a : ℕ). Judges a r s e x) v.strips
-      (subst (λ (a : ℕ). Judges h.n a s e x) v.rows
-      (subst (λ (a : ℕ). Judges h.n h.r a e x) v.shift (subst (λ (a : ℕ). Judges h.n h.r h.s a x) v.element j)))
+  judges_inside y w h q x j = of_shape n r s e h (w.shape h q) (λ n r s e. Judges n r s e x) j
 
   -- ---- it determines the answer
 

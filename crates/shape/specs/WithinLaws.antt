@@ -27,9 +27,21 @@ shape_same n r s e h g u v =
     here : At g.n g.r g.s g.e
     here l = ap (λ (k : Limits g.n g.r g.s g.e). record { n = g.n; r = g.r; s = g.s; e = g.e; limits = k }) (limits_prop l g.limits)
 
+carry : (P : ℕ → ℕ → ℕ → ℕ → Type 0) {a b c d x y z w : ℕ} → a ≡ x → b ≡ y → c ≡ z → d ≡ w → P a b c d → P x y z w
+carry P {a} {b} {c} {d} {x} {y} {z} {w} e f g h p =
+    subst (λ (v : ℕ). P x y z v) h (subst (λ (v : ℕ). P x y v d) g (subst (λ (v : ℕ). P x v c d) f (subst (λ (v : ℕ). P v b c d) e p)))
+
 -- a shape is that of its own numbers
 pub shape_itself : (h : Shape) → ShapeOf h.n h.r h.s h.e h
 shape_itself h = record { strips = refl; rows = refl; shift = refl; element = refl }
+
+-- what holds of a shape's numbers holds of the four that it is of, and back
+module _ (n r s e : ℕ) (h : Shape) (w : ShapeOf n r s e h) (P : ℕ → ℕ → ℕ → ℕ → Type 0) where
+  pub of_shape : P h.n h.r h.s h.e → P n r s e
+  of_shape p = carry P w.strips w.rows w.shift w.element p
+
+  pub to_numbers : P n r s e → P h.n h.r h.s h.e
+  to_numbers p = carry P (sym w.strips) (sym w.rows) (sym w.shift) (sym w.element) p
 
 module _ (n r s e : ℕ) where
   -- the answers that meet it

@@ -7,8 +7,6 @@ use Rattle.code.specs.Below.{some, count, first}
 use Rattle.code.specs.Shift.{diagonal, meets, shift}
 use Rattle.finding.specs.declared.Finding.TheVariants as finding
 use Rattle.finding.specs.Found.{found_of}
-use Rattle.stripe.specs.declared.scrubbing.Scrubbed.{Scrubbed}
-use Rattle.stripe.specs.declared.scrubbing.Scrubbed.TheVariants.{Counted}
 use Rattle.stripe.specs.Scrub.{counted_of}
 
 -- n=5, r=2, s=2, e=1

@@ -13,8 +13,6 @@ use Rattle.code.specs.Shift.{meets, shift}
 use Rattle.code.proofs.ShiftLaws.{shift_fair}
 use Rattle.code.specs.Bound.{q, pr, searched}
 use Rattle.shape.specs.declared.refusal.Refusal.TheVariants.{NoSound}
-use Rattle.shape.specs.declared.refusal.Answer.{Answer}
-use Rattle.shape.specs.declared.refusal.Answer.TheVariants.{Refused}
 use Rattle.shape.specs.Mask.{lost_in}
 use Rattle.rebuild.specs.Rebuild.{Agreeable, Cleared, Rebuilds}
 use Rattle.rebuild.specs.RebuildNumber.{Accepted}
@@ -92,8 +90,8 @@ damaged_cleared =
       none = none_agrees;
     }
 
-pub case_c_met : Rebuilds 5 2 2 1 3 damaged cleared (Refused NoSound)
+pub case_c_met : Rebuilds 5 2 2 1 3 damaged cleared (Err NoSound)
 case_c_met = rebuilds_none 5 2 2 1 3 damaged cleared damaged_accepted damaged_cleared
 
-pub case_c_outcome : (after : List ℕ) (x : Answer) → Rebuilds 5 2 2 1 3 damaged after x → (x ≡ Refused NoSound) × (after ≡ cleared)
-case_c_outcome after x w = rebuild_determined 5 2 2 1 3 damaged after cleared x (Refused NoSound) w case_c_met
+pub case_c_outcome : (after : List ℕ) (x : Answer) → Rebuilds 5 2 2 1 3 damaged after x → (x ≡ Err NoSound) × (after ≡ cleared)
+case_c_outcome after x w = rebuild_determined 5 2 2 1 3 damaged after cleared x (Err NoSound) w case_c_met

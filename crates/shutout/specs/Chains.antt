@@ -10,8 +10,6 @@ use Rattle.code.specs.Sound.{along, SoundStripe}
 use Rattle.code.specs.SoundTest.{sound_stripe?}
 use Rattle.code.specs.Shift.{diagonal, shift}
 use Rattle.code.specs.Bound.{q, pr, searched}
-use Rattle.shape.specs.declared.refusal.Answer.{Answer}
-use Rattle.shape.specs.declared.refusal.Answer.TheVariants.{Done}
 use Rattle.shape.specs.Mask.{lost_in}
 use Rattle.rebuild.specs.Rebuild.{Kept, Rebuilds}
 use Rattle.rebuild.specs.RebuildNumber.{Accepted}
@@ -49,8 +47,8 @@ lost_kept = (kept? (shift 8 3 5) 1 (lost_in 17) lost whole).gives tt
 
 -- ---- the one outcome
 
-pub chains_met : Rebuilds 8 3 5 1 17 lost whole Done
+pub chains_met : Rebuilds 8 3 5 1 17 lost whole (Ok tt)
 chains_met = rebuilds_done 8 3 5 1 17 lost whole lost_accepted (record { kept = lost_kept; sound = whole_sound })
 
-pub chains_outcome : (after : List ℕ) (x : Answer) → Rebuilds 8 3 5 1 17 lost after x → (x ≡ Done) × (after ≡ whole)
-chains_outcome after x w = rebuild_determined 8 3 5 1 17 lost after whole x Done w chains_met
+pub chains_outcome : (after : List ℕ) (x : Answer) → Rebuilds 8 3 5 1 17 lost after x → (x ≡ Ok tt) × (after ≡ whole)
+chains_outcome after x w = rebuild_determined 8 3 5 1 17 lost after whole x (Ok tt) w chains_met

@@ -12,12 +12,11 @@ use Rattle.code.specs.Steps.{Written, BuiltAt}
 use Rattle.code.specs.Walk.{Walk}
 use Rattle.shape.specs.declared.shapes.Shape.{Shape}
 use Rattle.shape.specs.declared.refusal.Refusal.{Refusal}
-use Rattle.shape.specs.declared.Judged.TheVariants.{Good, Refused}
 use Rattle.shape.specs.Refusal.{number_of, refusal_some}
 use Rattle.shape.specs.Judge.{Judges}
 
 -- a judge that accepts all: n = 4, s = 2 serves no r
-pub accepts_all : (h : Shape) (b : ℕ) → Judges 4 1 2 1 (Good h b) → ⊥
+pub accepts_all : (h : Shape) (b : ℕ) → Judges 4 1 2 1 (Ok (h, b)) → ⊥
 unfolding q pr searched
 accepts_all h b x = five x.number
   where
@@ -25,7 +24,7 @@ accepts_all h b x = five x.number
     five e = omega arith
 
 -- a judge that refuses all: n = 7, r = 5, s = 1 is good
-pub refuses_all : (x : Refusal) → Judges 7 5 1 1 (Refused x) → ⊥
+pub refuses_all : (x : Refusal) → Judges 7 5 1 1 (Err x) → ⊥
 unfolding q pr searched
 refuses_all x y = none y.number (refusal_some x)
   where

@@ -10,12 +10,10 @@ use Rattle.code.specs.Sound.{along}
 use Rattle.code.specs.Shift.{diagonal}
 use Rattle.code.specs.Bound.{q, pr, searched}
 use Rattle.shape.specs.declared.refusal.Refusal.{Refusal}
-use Rattle.shape.specs.declared.refusal.Answer.TheVariants.{Done, Refused}
 use Rattle.shape.specs.Refusal.{number_of, refusal_some}
 use Rattle.shape.specs.Call.{Answered}
 use Rattle.patch.specs.Written.{written_at, written_over}
 use Rattle.finding.specs.declared.Finding.{Finding}
-use Rattle.stripe.specs.declared.scrubbing.Scrubbed.TheVariants as scrubbed
 use Rattle.stripe.specs.Encode.{Encodes}
 use Rattle.stripe.specs.Write.{written, Writes}
 use Rattle.stripe.specs.Read.{read_number, read_part}
@@ -32,7 +30,7 @@ unfoldable pub blank : List ℕ
 blank = 0x11 ∷ 0 ∷ 0x22 ∷ 0 ∷ 0x44 ∷ 0 ∷ 0 ∷ []
 
 -- an encode that does nothing leaves H(0) zero
-pub encode_idle : Encodes 3 1 1 1 blank blank Done → ⊥
+pub encode_idle : Encodes 3 1 1 1 blank blank (Ok tt) → ⊥
 unfolding blank sum_to ◌⊕◌
 encode_idle x = other (((x.done refl).sound 0 (omega arith)).rows 0 (omega arith))
   where
@@ -40,7 +38,7 @@ encode_idle x = other (((x.done refl).sound 0 (omega arith)).rows 0 (omega arith
     other e = omega arith
 
 -- an encode that sets the H alone leaves U(0) zero
-pub encode_rows_alone : Encodes 3 1 1 1 blank (set blank 6 0x77) Done → ⊥
+pub encode_rows_alone : Encodes 3 1 1 1 blank (set blank 6 0x77) (Ok tt) → ⊥
 unfolding blank sum_to along diagonal ◌⊕◌
 encode_rows_alone x = other (((x.done refl).sound 0 (omega arith)).diagonals 0 (omega arith))
   where
@@ -48,7 +46,7 @@ encode_rows_alone x = other (((x.done refl).sound 0 (omega arith)).diagonals 0 (
     other e = omega arith
 
 -- an encode that clears the data leaves a sound stripe, of other data
-pub encode_clears : Encodes 3 1 1 1 blank (0 ∷ 0 ∷ 0 ∷ 0 ∷ 0 ∷ 0 ∷ 0 ∷ []) Done → ⊥
+pub encode_clears : Encodes 3 1 1 1 blank (0 ∷ 0 ∷ 0 ∷ 0 ∷ 0 ∷ 0 ∷ 0 ∷ []) (Ok tt) → ⊥
 unfolding blank
 encode_clears x = other ((x.done refl).elements 0 0 0 (omega arith) (omega arith) (omega arith))
   where
@@ -56,12 +54,12 @@ encode_clears x = other ((x.done refl).elements 0 0 0 (omega arith) (omega arith
     other e = omega arith
 
 -- an encode that refuses all
-pub encode_refuses : (x : Refusal) → Encodes 3 1 1 1 blank blank (Refused x) → ⊥
+pub encode_refuses : (x : Refusal) → Encodes 3 1 1 1 blank blank (Err x) → ⊥
 unfolding blank q pr searched
 encode_refuses x y = never_done x y.answer.is
 
 -- an encode that leaves out the last row, on case B: H(1) stays zero
-pub encode_last_row : Encodes 5 2 2 1 (set case_b 16 0) (set case_b 16 0) Done → ⊥
+pub encode_last_row : Encodes 5 2 2 1 (set case_b 16 0) (set case_b 16 0) (Ok tt) → ⊥
 unfolding case_b sum_to ◌⊕◌
 encode_last_row x = other (((x.done refl).sound 0 (omega arith)).rows 1 (omega arith))
   where
@@ -71,7 +69,7 @@ encode_last_row x = other (((x.done refl).sound 0 (omega arith)).rows 1 (omega a
 -- ---- write, on case B: n=5, r=2, s=2, e=1. FF at row 0, strip 2, which is byte 6
 
 -- a write that does nothing leaves 04 there
-pub write_idle : Writes 5 2 2 1 0 2 0 (0xFF ∷ []) case_b case_b Done → ⊥
+pub write_idle : Writes 5 2 2 1 0 2 0 (0xFF ∷ []) case_b case_b (Ok tt) → ⊥
 unfolding case_b written written_over written_at table diagonal q pr searched ◌⊕◌
 write_idle x = other (ap (λ (s : List ℕ). get_or s 6 0) x.bytes)
   where
@@ -79,7 +77,7 @@ write_idle x = other (ap (λ (s : List ℕ). get_or s 6 0) x.bytes)
     other e = omega arith
 
 -- a write that changes no parity leaves H(0) as it was
-pub write_data_alone : Writes 5 2 2 1 0 2 0 (0xFF ∷ []) case_b (set case_b 6 0xFF) Done → ⊥
+pub write_data_alone : Writes 5 2 2 1 0 2 0 (0xFF ∷ []) case_b (set case_b 6 0xFF) (Ok tt) → ⊥
 unfolding case_b written written_over written_at table diagonal q pr searched ◌⊕◌
 write_data_alone x = other (ap (λ (s : List ℕ). get_or s 15 0) x.bytes)
   where
@@ -87,7 +85,7 @@ write_data_alone x = other (ap (λ (s : List ℕ). get_or s 15 0) x.bytes)
     other e = omega arith
 
 -- a write that adds new, where old and new belongs, makes H(0) E0
-pub write_new_alone : Writes 5 2 2 1 0 2 0 (0xFF ∷ []) case_b (set (set (set case_b 6 0xFF) 15 0xE0) 14 0xBB) Done → ⊥
+pub write_new_alone : Writes 5 2 2 1 0 2 0 (0xFF ∷ []) case_b (set (set (set case_b 6 0xFF) 15 0xE0) 14 0xBB) (Ok tt) → ⊥
 unfolding case_b written written_over written_at table diagonal q pr searched ◌⊕◌
 write_new_alone x = other (ap (λ (s : List ℕ). get_or s 15 0) x.bytes)
   where
@@ -95,12 +93,12 @@ write_new_alone x = other (ap (λ (s : List ℕ). get_or s 15 0) x.bytes)
     other e = omega arith
 
 -- a write that refuses all
-pub write_refuses : (x : Refusal) → Writes 5 2 2 1 0 2 0 (0xFF ∷ []) case_b case_b (Refused x) → ⊥
+pub write_refuses : (x : Refusal) → Writes 5 2 2 1 0 2 0 (0xFF ∷ []) case_b case_b (Err x) → ⊥
 unfolding case_b q pr searched
 write_refuses x y = never_done x y.answer.is
 
 -- a write that refuses nothing: row 2 is the U of a strip
-pub write_row_r : (s : List ℕ) → Writes 5 2 2 1 2 2 0 (0xFF ∷ []) case_b s Done → ⊥
+pub write_row_r : (s : List ℕ) → Writes 5 2 2 1 2 2 0 (0xFF ∷ []) case_b s (Ok tt) → ⊥
 unfolding case_b q pr searched
 write_row_r s x = other x.answer.is
   where
@@ -110,7 +108,7 @@ write_row_r s x = other x.answer.is
 -- ---- read, on case B
 
 -- a check that refuses nothing: strip 5 holds the H
-pub check_strip_n : Answered 5 2 2 (read_number 5 2 2 1 17 0 5) Done → ⊥
+pub check_strip_n : Answered 5 2 2 (read_number 5 2 2 1 17 0 5) (Ok tt) → ⊥
 unfolding q pr searched
 check_strip_n x = other x.is
   where
@@ -118,7 +116,7 @@ check_strip_n x = other x.is
     other e = omega arith
 
 -- a check that refuses all
-pub check_refuses : (x : Refusal) → Answered 5 2 2 (read_number 5 2 2 1 17 0 2) (Refused x) → ⊥
+pub check_refuses : (x : Refusal) → Answered 5 2 2 (read_number 5 2 2 1 17 0 2) (Err x) → ⊥
 unfolding q pr searched
 check_refuses x y = never_done x y.is
 
@@ -157,6 +155,6 @@ scrub_invents f x = other (x.diagonals 1 1 f refl)
     other e = omega arith
 
 -- a scrub that refuses all
-pub scrub_refuses : (x : Refusal) → Scrubs 5 2 2 1 case_b (scrubbed.Refused x) → ⊥
+pub scrub_refuses : (x : Refusal) → Scrubs 5 2 2 1 case_b (Err x) → ⊥
 unfolding case_b q pr searched
 scrub_refuses x y = never_done x y.number

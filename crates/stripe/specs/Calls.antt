@@ -1,23 +1,16 @@
 -- How the calls meet their contracts, from the opened buffer on. Assumes nothing.
-use Rattle.std.specs.Prelude.{◌≡◌, true, false, List, [], ℕ, ◌+◌, ◌*◌, ◌≤◌, ◌<◌, length, take, drop}
-use Rattle.std.proofs.Common.{sym, ap, ◌∙◌, subst}
+use Rattle.std.specs.Prelude.{◌≡◌, true, false, List, [], ℕ, ◌+◌, ◌*◌, ◌≤◌, ◌<◌, length, take, drop, Result, Err, Ok}
+use Rattle.std.proofs.Common.{◌∙◌}
 use Rattle.code.specs.Layout.{X}
 use Rattle.code.specs.Shift.{shift}
 use Rattle.shape.specs.declared.shapes.Shape.{Shape}
 use Rattle.shape.specs.declared.refusal.Refusal.{Refusal}
 use Rattle.shape.specs.declared.refusal.Refusal.TheVariants.{Place}
-use Rattle.shape.specs.declared.refusal.Answer.{Answer}
-use Rattle.shape.specs.declared.refusal.Answer.TheVariants.{Done, Refused}
-use Rattle.shape.specs.declared.Judged.{Judged}
-use Rattle.shape.specs.declared.Judged.TheVariants as judged
-use Rattle.shape.specs.Limits.{Limits}
+use Rattle.shape.specs.WithinLaws.{of_shape, to_numbers}
 use Rattle.shape.specs.Call.{bytes_of, Answered}
-use Rattle.shape.specs.Judge.{judged_answer}
 use Rattle.patch.specs.Written.{written_over}
 use Rattle.finding.specs.declared.Counts.{Counts}
 use Rattle.finding.specs.Found.{Finds}
-use Rattle.stripe.specs.declared.scrubbing.Scrubbed.{Scrubbed}
-use Rattle.stripe.specs.declared.scrubbing.Scrubbed.TheVariants.{Counted}
 use Rattle.stripe.specs.Opened.{Opens}
 use Rattle.stripe.specs.Encode.{EncodedFrom, Encodes}
 use Rattle.stripe.specs.EncodeDetermined.{encodes_refused, encodes_done}
@@ -26,71 +19,64 @@ use Rattle.stripe.specs.WriteNumber.{inside_place, answered_outside, answered_do
 use Rattle.stripe.specs.WriteCall.{writes_refused, writes_done}
 use Rattle.stripe.specs.Read.{read_number, read_part}
 use Rattle.stripe.specs.ReadLaws.{reads_refused, reads_done}
-use Rattle.stripe.specs.Scrub.{Scrubs, uncounted}
+use Rattle.stripe.specs.Scrub.{Scrubs}
 use Rattle.stripe.specs.ScrubAnswers.{scrubs_refused, scrubs_counted}
 
-module _ (n r s e : ℕ) (b : List ℕ) (x : Judged) (o : Opens n r s e (length b) x) where
-  -- ---- the shape is refused
+module _ (n r s e : ℕ) (b : List ℕ) (x : Result Shape Refusal) (o : Opens n r s e (length b) x) where
+  -- ---- the shape or the length is refused
 
-  refused_is : (y : Refusal) → x ≡ judged.Refused y → (a : Answer) → a ≡ judged_answer x → a ≡ Refused y
-  refused_is y q a w = w ∙ ap judged_answer q
+  module _ (y : Refusal) (q : x ≡ Err y) where
+    pub encode_refused : Encodes n r s e b b (Err y)
+    encode_refused = encodes_refused n r s e b y (o.refused y q 0)
 
-  module _ (y : Refusal) (q : x ≡ judged.Refused y) where
-    pub encode_refused : (a : Answer) → a ≡ judged_answer x → Encodes n r s e b b a
-    encode_refused a w = subst (Encodes n r s e b b) (sym (refused_is y q a w)) (encodes_refused n r s e b y (o.refused y q 0))
+    pub write_refused : (i j k : ℕ) (run : List ℕ) → Writes n r s e i j k run b b (Err y)
+    write_refused i j k run = writes_refused n r s e i j k run b y (o.refused y q _)
 
-    pub write_refused : (i j k : ℕ) (run : List ℕ) (a : Answer) → a ≡ judged_answer x → Writes n r s e i j k run b b a
-    write_refused i j k run a w =
-        subst (Writes n r s e i j k run b b) (sym (refused_is y q a w)) (writes_refused n r s e i j k run b y (o.refused y q _))
-
-    pub check_refused : (i j : ℕ) (a : Answer) → a ≡ judged_answer x → Answered n r s (read_number n r s e (length b) i j) a
-    check_refused i j a w = subst (Answered n r s (read_number n r s e (length b) i j)) (sym (refused_is y q a w)) (o.refused y q _)
+    pub check_refused : (i j : ℕ) → Answered n r s (read_number n r s e (length b) i j) (Err y)
+    check_refused i j = o.refused y q _
 
     pub read_none : (i j : ℕ) → [] ≡ read_part n r s e i j b
     read_none i j = reads_refused n r s e i j b y (o.refused y q _)
 
-    pub scrub_refused : (z : Scrubbed) → z ≡ uncounted x → Scrubs n r s e b z
-    scrub_refused z w = subst (Scrubs n r s e b) (sym (w ∙ ap uncounted q)) (scrubs_refused n r s e b y (o.refused y q 0))
+    pub scrub_refused : Scrubs n r s e b (Err y)
+    scrub_refused = scrubs_refused n r s e b y (o.refused y q 0)
 
   -- ---- the shape is good
 
-  module _ (h : Shape) (c : ℕ) (q : x ≡ judged.Good h c) where
+  module _ (h : Shape) (q : x ≡ Ok h) where
     -- what holds of the shape's numbers holds of the four, and back
     from_shape : (P : ℕ → ℕ → ℕ → ℕ → Type 0) → P h.n h.r h.s h.e → P n r s e
-    from_shape P p = subst (λ (g : Shape). P g.n g.r g.s g.e) (o.opened h c q).shape p
+    from_shape P p = of_shape n r s e h (o.opened h q).shape P p
 
     to_shape : (P : ℕ → ℕ → ℕ → ℕ → Type 0) → P n r s e → P h.n h.r h.s h.e
-    to_shape P p = subst (λ (g : Shape). P g.n g.r g.s g.e) (sym (o.opened h c q).shape) p
-
-    pub shape_limits : Limits h.n h.r h.s h.e
-    shape_limits = to_shape (λ n r s e. Limits n r s e) (o.opened h c q).limits
+    to_shape P p = to_numbers n r s e h (o.opened h q).shape P p
 
     pub shape_size : length b ≡ bytes_of h.n h.r h.e
-    shape_size = to_shape (λ n r s e. length b ≡ bytes_of n r e) (o.opened h c q).sized
+    shape_size = to_shape (λ n r s e. length b ≡ bytes_of n r e) (o.opened h q).sized
 
-    pub encode_done : (a : List ℕ) → EncodedFrom (shift h.n h.r h.s) h.e b a → Encodes n r s e b a Done
+    pub encode_done : (a : List ℕ) → EncodedFrom (shift h.n h.r h.s) h.e b a → Encodes n r s e b a (Ok tt)
     encode_done a p =
-        encodes_done n r s e b (o.opened h c q).limits (o.opened h c q).good a (o.opened h c q).sized (from_shape (λ n r s e. EncodedFrom (shift n r s) e b a) p)
+        encodes_done n r s e b (o.opened h q).limits (o.opened h q).good a (o.opened h q).sized (from_shape (λ n r s e. EncodedFrom (shift n r s) e b a) p)
 
     module _ (i j k len : ℕ) where
-      pub outside_answered : place_outside h.n h.r h.e i j k len ≡ true → Answered n r s (write_number n r s e (length b) i j k len) (Refused Place)
+      pub outside_answered : place_outside h.n h.r h.e i j k len ≡ true → Answered n r s (write_number n r s e (length b) i j k len) (Err Place)
       outside_answered t =
-          answered_outside n r s e (length b) i j k len (o.opened h c q).limits (o.opened h c q).good (o.opened h c q).sized
+          answered_outside n r s e (length b) i j k len (o.opened h q).limits (o.opened h q).good (o.opened h q).sized
           (from_shape (λ n r s e. place_outside n r e i j k len ≡ true) t)
 
-      pub inside_answered : place_outside h.n h.r h.e i j k len ≡ false → Answered n r s (write_number n r s e (length b) i j k len) Done
+      pub inside_answered : place_outside h.n h.r h.e i j k len ≡ false → Answered n r s (write_number n r s e (length b) i j k len) (Ok tt)
       inside_answered t =
-          answered_done n r s e (length b) i j k len (o.opened h c q).limits (o.opened h c q).good (o.opened h c q).sized
+          answered_done n r s e (length b) i j k len (o.opened h q).limits (o.opened h q).good (o.opened h q).sized
           (from_shape (λ n r s e. place_outside n r e i j k len ≡ false) t)
 
       pub inside_shape : place_outside h.n h.r h.e i j k len ≡ false → (i < h.r) × (j < h.n) × (k + len ≤ h.e)
       inside_shape t = inside_place h.n h.r h.e i j k len t
 
-    pub write_outside : (i j k : ℕ) (run : List ℕ) → place_outside h.n h.r h.e i j k (length run) ≡ true → Writes n r s e i j k run b b (Refused Place)
+    pub write_outside : (i j k : ℕ) (run : List ℕ) → place_outside h.n h.r h.e i j k (length run) ≡ true → Writes n r s e i j k run b b (Err Place)
     write_outside i j k run t = writes_refused n r s e i j k run b Place (outside_answered i j k (length run) t)
 
     pub write_done : (i j k : ℕ) (run a : List ℕ) → place_outside h.n h.r h.e i j k (length run) ≡ false
-        → a ≡ written_over (shift h.n h.r h.s) h.e i j k run b → Writes n r s e i j k run b a Done
+        → a ≡ written_over (shift h.n h.r h.s) h.e i j k run b → Writes n r s e i j k run b a (Ok tt)
     write_done i j k run a t p =
         writes_done n r s e i j k run b a (inside_answered i j k (length run) t) (from_shape (λ n r s e. a ≡ written_over (shift n r s) e i j k run b) p)
 
@@ -102,7 +88,7 @@ module _ (n r s e : ℕ) (b : List ℕ) (x : Judged) (o : Opens n r s e (length 
     read_inside i j p t w =
         from_shape (λ n r s e. p ≡ take e (drop (X (shift n r s) i j * e) b)) w ∙ reads_done n r s e i j b (inside_answered i j 0 0 t)
 
-    pub scrub_counted : (x : Counts) → Finds (shift h.n h.r h.s) h.e b x → Scrubs n r s e b (Counted x.rows x.diagonals x.finding)
-    scrub_counted x w =
-        scrubs_counted n r s e b (o.opened h c q).limits (o.opened h c q).good x (o.opened h c q).sized
-        (from_shape (λ n r s e. Finds (shift n r s) e b x) w)
+    pub scrub_counted : (c : Counts) → Finds (shift h.n h.r h.s) h.e b c → Scrubs n r s e b (Ok c)
+    scrub_counted c w =
+        scrubs_counted n r s e b (o.opened h q).limits (o.opened h q).good c (o.opened h q).sized
+        (from_shape (λ n r s e. Finds (shift n r s) e b c) w)

@@ -1,5 +1,5 @@
 -- Laws of read: the part lies inside the stripe and has e bytes; it is empty exactly when read is refused. Assumes nothing.
-use Rattle.std.specs.Prelude.{◌≡◌, ◌≢◌, ◌↔◌, Bool, List, [], ℕ, ◌+◌, ◌-◌, ◌*◌, ◌≤◌, ◌<◌, length, take, drop}
+use Rattle.std.specs.Prelude.{◌≡◌, ◌≢◌, ◌↔◌, Bool, List, [], ℕ, ◌+◌, ◌-◌, ◌*◌, ◌≤◌, ◌<◌, length, take, drop, Err, Ok}
 use Rattle.std.proofs.Common.{sym, ap₂, ◌∙◌, arith, length-drop, length-take-le, eq-eqb, ne_eqb}
 use Rattle.std.proofs.Math.Path.{ap}
 use Rattle.code.specs.Sum.{pick}
@@ -8,11 +8,9 @@ use Rattle.code.specs.Layout.{Layout, X, places}
 use Rattle.code.specs.LayoutLaws.{X_below}
 use Rattle.code.specs.Shift.{shift}
 use Rattle.shape.specs.declared.refusal.Refusal.{Refusal}
-use Rattle.shape.specs.declared.refusal.Answer.{Answer}
-use Rattle.shape.specs.declared.refusal.Answer.TheVariants.{Done, Refused}
 use Rattle.shape.specs.Refusal.{refusal_some}
 use Rattle.shape.specs.Limits.{Limits}
-use Rattle.shape.specs.Call.{Answered}
+use Rattle.shape.specs.Call.{Answered, Answer}
 use Rattle.shape.specs.CallLaws.{answered_same}
 use Rattle.stripe.specs.Read.{read_number, read_part}
 use Rattle.stripe.specs.WriteNumber.{number_accepted}
@@ -47,10 +45,10 @@ module _ (n r s e i j : ℕ) (b : List ℕ) where
   -- ---- by the answer
 
   -- whatever refuses the call, the part is empty
-  pub reads_refused : (y : Refusal) → Answered n r s (read_number n r s e (length b) i j) (Refused y) → [] ≡ read_part n r s e i j b
+  pub reads_refused : (y : Refusal) → Answered n r s (read_number n r s e (length b) i j) (Err y) → [] ≡ read_part n r s e i j b
   reads_refused y p = sym (read_refused (λ z. let w = refusal_some y in omega (arith, p.is)))
 
-  pub reads_done : Answered n r s (read_number n r s e (length b) i j) Done → take e (drop (X (shift n r s) i j * e) b) ≡ read_part n r s e i j b
+  pub reads_done : Answered n r s (read_number n r s e (length b) i j) (Ok tt) → take e (drop (X (shift n r s) i j * e) b) ≡ read_part n r s e i j b
   reads_done p = sym (read_done (sym p.is))
 
   -- ---- empty means refused

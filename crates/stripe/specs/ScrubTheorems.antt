@@ -1,7 +1,7 @@
 -- SCRUB: what its counts and its finding say of a stripe. They are (0, 0) and Sound exactly when it is sound; a sound stripe in which one
 -- element changed, data, H or U, is found as exactly that element; and the contract determines the answer. Assumes nothing.
 -- s, t == a stripe before and after a change
-use Rattle.std.specs.Prelude.{◌≡◌, refl, false, not, ◌↔◌, List, ℕ, ◌<◌, eqb}
+use Rattle.std.specs.Prelude.{◌≡◌, refl, false, not, ◌↔◌, List, ℕ, ◌<◌, eqb, Ok, Err}
 use Rattle.std.proofs.Common.{sym, ap, ◌∙◌, arith, eq-eqb, eqb-true}
 use Rattle.std.proofs.lemmas.Bool.{not-false}
 use Rattle.code.specs.Below.{count}
@@ -18,9 +18,7 @@ use Rattle.finding.proofs.FoundLaws.{found_sound, found_U, found_H, found_elemen
 use Rattle.finding.specs.LinesOf.{X_row, X_diagonal, H_row, H_diagonal, U_row, U_diagonal}
 use Rattle.finding.proofs.ChangedAt.{one_row, no_row, one_diagonal, no_diagonal}
 use Rattle.finding.specs.ChangedAt.{ChangedAt}
-use Rattle.stripe.specs.declared.scrubbing.Scrubbed.{Scrubbed}
-use Rattle.stripe.specs.declared.scrubbing.Scrubbed.TheVariants.{Counted, Refused}
-use Rattle.stripe.specs.Scrub.{Scrubs, counted_of}
+use Rattle.stripe.specs.Scrub.{Scrubbed, Scrubs, counted_of}
 use Rattle.stripe.specs.ScrubAnswers.{counted_is}
 
 -- ---- sound
@@ -57,7 +55,7 @@ module _ (L : Layout) (e : ℕ) (s : List ℕ) where
 
 module _ (L : Layout) (F : Fair L) (e : ℕ) (s t : List ℕ) (sound : (k : ℕ) → k < e → Sound L (at s e k)) where
   -- of data: its row and its diagonal are wrong, and meet in it
-  pub scrub_element : (i j : ℕ) → i < L.r → j < L.n → ChangedAt L e (X L i j) s t → counted_of L e t ≡ Counted 1 1 (finding.Element i j)
+  pub scrub_element : (i j : ℕ) → i < L.r → j < L.n → ChangedAt L e (X L i j) s t → counted_of L e t ≡ record { rows = 1; diagonals = 1; finding = finding.Element i j }
   scrub_element i j li lj c =
       let p = one_row L F e (X L i j) s t sound c i (X_row L i j li (omega arith)) in
       let q = one_diagonal L F e (X L i j) s t sound c (L.diagonal i j) (X_diagonal L F i j li lj) in
@@ -65,7 +63,7 @@ module _ (L : Layout) (F : Fair L) (e : ℕ) (s t : List ℕ) (sound : (k : ℕ)
       cc (p.many, q.many, f, F.meets_diagonal i j li lj)
 
   -- an H: its row is wrong
-  pub scrub_H : (i : ℕ) → i < L.r → ChangedAt L e (H L i) s t → counted_of L e t ≡ Counted 1 0 (finding.H i)
+  pub scrub_H : (i : ℕ) → i < L.r → ChangedAt L e (H L i) s t → counted_of L e t ≡ record { rows = 1; diagonals = 0; finding = finding.H i }
   scrub_H i li c =
       let p = one_row L F e (H L i) s t sound c i (H_row L i li) in
       let q = no_diagonal L F e (H L i) s t sound c (H_diagonal L F i li) in
@@ -73,7 +71,7 @@ module _ (L : Layout) (F : Fair L) (e : ℕ) (s t : List ℕ) (sound : (k : ℕ)
       cc (p.many, q.many, f)
 
   -- a U: its diagonal is wrong
-  pub scrub_U : (d : ℕ) → d < L.n → ChangedAt L e (U L d) s t → counted_of L e t ≡ Counted 0 1 (finding.U d)
+  pub scrub_U : (d : ℕ) → d < L.n → ChangedAt L e (U L d) s t → counted_of L e t ≡ record { rows = 0; diagonals = 1; finding = finding.U d }
   scrub_U d ld c =
       let p = no_row L F e (U L d) s t sound c (U_row L d) in
       let q = one_diagonal L F e (U L d) s t sound c d (U_diagonal L F d ld) in
@@ -84,8 +82,8 @@ module _ (L : Layout) (F : Fair L) (e : ℕ) (s t : List ℕ) (sound : (k : ℕ)
 
 -- it determines the answer: the number, the counts, the finding, the refusal and its pair
 pub scrub_determined : (n r s e : ℕ) (b : List ℕ) (x y : Scrubbed) → Scrubs n r s e b x → Scrubs n r s e b y → x ≡ y
-scrub_determined n r s e b (Counted u v f) (Counted w z g) p q = counted_is n r s e b u v f p ∙ sym (counted_is n r s e b w z g q)
-scrub_determined n r s e b (Counted u v f) (Refused y) p q = absurd (omega (arith, p.number, q.number, refusal_some y))
-scrub_determined n r s e b (Refused x) (Counted w z g) p q = absurd (omega (arith, p.number, q.number, refusal_some x))
-scrub_determined n r s e b (Refused x) (Refused y) p q =
-    ap Refused (named_same n r s x y (p.number ∙ sym q.number) (p.named x refl) (q.named y refl))
+scrub_determined n r s e b (Ok c) (Ok d) p q = ap Ok (counted_is n r s e b c p ∙ sym (counted_is n r s e b d q))
+scrub_determined n r s e b (Ok c) (Err y) p q = absurd (omega (arith, p.number, q.number, refusal_some y))
+scrub_determined n r s e b (Err x) (Ok d) p q = absurd (omega (arith, p.number, q.number, refusal_some x))
+scrub_determined n r s e b (Err x) (Err y) p q =
+    ap Err (named_same n r s x y (p.number ∙ sym q.number) (p.named x refl) (q.named y refl))

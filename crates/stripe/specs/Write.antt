@@ -3,8 +3,7 @@
 use Rattle.std.specs.Prelude.{◌≡◌, Bool, true, List, ℕ, ◌+◌, eqb, ltb, leb, length}
 use Rattle.code.specs.Sum.{pick}
 use Rattle.code.specs.Shift.{shift}
-use Rattle.shape.specs.declared.refusal.Answer.{Answer}
-use Rattle.shape.specs.Call.{call_number, Answered}
+use Rattle.shape.specs.Call.{call_number, Answered, Answer}
 use Rattle.patch.specs.Written.{written_over}
 
 -- line 9: row not below r, strip not below n, or offset plus length above e

@@ -1,5 +1,5 @@
 -- A call of write: how its contract is met, and what the contract says of every line, whatever the call is given. Assumes nothing.
-use Rattle.std.specs.Prelude.{◌≡◌, refl, List, ℕ, ◌+◌, ◌<◌, length}
+use Rattle.std.specs.Prelude.{◌≡◌, refl, List, ℕ, ◌+◌, ◌<◌, length, Err, Ok}
 use Rattle.std.proofs.Common.{sym, ap, ◌∙◌, subst, arith}
 use Rattle.std.proofs.Math.Decide.{ℕ_discrete}
 use Rattle.code.specs.Sum.{sum}
@@ -9,10 +9,8 @@ use Rattle.code.specs.Sound.{Sound}
 use Rattle.code.specs.Shift.{shift}
 use Rattle.code.proofs.ShiftLaws.{shift_fair}
 use Rattle.shape.specs.declared.refusal.Refusal.{Refusal}
-use Rattle.shape.specs.declared.refusal.Answer.{Answer}
-use Rattle.shape.specs.declared.refusal.Answer.TheVariants.{Done, Refused}
 use Rattle.shape.specs.Refusal.{refusal_some}
-use Rattle.shape.specs.Call.{answer_number, Answered}
+use Rattle.shape.specs.Call.{answer_number, Answered, Answer}
 use Rattle.patch.specs.Written.{written_over}
 use Rattle.patch.proofs.WrittenLaws.{written_length}
 use Rattle.stripe.specs.Encode.{EncodedFrom}
@@ -27,13 +25,13 @@ module _ (n r s e i j o : ℕ) (run b : List ℕ) where
   -- ---- how the contract is met
 
   -- whatever refuses the call, no byte changes
-  pub writes_refused : (y : Refusal) → Answered n r s (write_number n r s e (length b) i j o (length run)) (Refused y) → Writes n r s e i j o run b b (Refused y)
+  pub writes_refused : (y : Refusal) → Answered n r s (write_number n r s e (length b) i j o (length run)) (Err y) → Writes n r s e i j o run b b (Err y)
   writes_refused y p =
       record { answer = p; bytes = sym (written_refused n r s e i j o run b (λ z. let w = refusal_some y in omega (arith, p.is))) }
 
   -- done, the run is written
-  pub writes_done : (a : List ℕ) → Answered n r s (write_number n r s e (length b) i j o (length run)) Done → a ≡ written_over (shift n r s) e i j o run b
-      → Writes n r s e i j o run b a Done
+  pub writes_done : (a : List ℕ) → Answered n r s (write_number n r s e (length b) i j o (length run)) (Ok tt) → a ≡ written_over (shift n r s) e i j o run b
+      → Writes n r s e i j o run b a (Ok tt)
   writes_done a p q = record { answer = p; bytes = q ∙ sym (written_done n r s e i j o run b (sym p.is)) }
 
   -- ---- what it says
@@ -63,7 +61,7 @@ module _ (n r s e i j o : ℕ) (run b : List ℕ) where
         (λ y. written_sound (shift n r s) e i j o run b (shift_fair n r s (positive y)) y.row y.strip y.sized sound k lk)
 
     -- and where the write is done it is what encode leaves of any buffer u with the same data
-    pub write_encoded : x ≡ Done → ((k : ℕ) → k < e → Sound (shift n r s) (at b e k)) → (u t : List ℕ) → length u ≡ length b
+    pub write_encoded : x ≡ Ok tt → ((k : ℕ) → k < e → Sound (shift n r s) (at b e k)) → (u t : List ℕ) → length u ≡ length b
         → ((m q k : ℕ) → m < r → q < n → k < e → at u e k (X (shift n r s) m q) ≡ at a e k (X (shift n r s) m q))
         → EncodedFrom (shift n r s) e u t → t ≡ a
     write_encoded d sound u t lu h p =

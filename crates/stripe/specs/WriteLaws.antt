@@ -9,13 +9,13 @@ use Rattle.code.specs.Layout.{Layout, Fair, X, places, line}
 use Rattle.code.specs.Sound.{Sound}
 use Rattle.code.specs.Change.{changed_line, changed_sound}
 use Rattle.code.specs.Shift.{shift}
-use Rattle.shape.specs.declared.refusal.Answer.{Answer}
 use Rattle.shape.specs.CallLaws.{answered_same}
 use Rattle.patch.specs.Written.{written_over}
 use Rattle.patch.proofs.WrittenLaws.{written_length, written_changed}
 use Rattle.stripe.specs.Encode.{EncodedFrom}
 use Rattle.stripe.specs.Write.{write_number, written, Writes}
 use Rattle.stripe.specs.EncodeLaws.{encoded_same}
+use Rattle.shape.specs.Call.{Answer}
 
 module _ (L : Layout) (e i j o : ℕ) (run s : List ℕ) (F : Fair L) (li : i < L.r) (lj : j < L.n) (size : length s ≡ e * places L) where
   -- every line's sum stays, in every byte

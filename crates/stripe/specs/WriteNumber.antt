@@ -1,6 +1,6 @@
 -- The number of a write and of a read: line 9 in words, when the number is 0, and the answer in each case of a good shape. Assumes nothing.
 -- size == the bytes of the lent buffer    len == the bytes of the run, 0 for a read
-use Rattle.std.specs.Prelude.{◌≡◌, refl, Bool, true, false, ℕ, ◌+◌, ◌≤◌, ◌<◌, ltb, leb}
+use Rattle.std.specs.Prelude.{◌≡◌, refl, Bool, true, false, ℕ, ◌+◌, ◌≤◌, ◌<◌, ltb, leb, Err, Ok}
 use Rattle.std.proofs.Common.{sym, ap, ◌∙◌, arith, ltb-false, leb-false, le-leb, le-ltb}
 use Rattle.std.proofs.lemmas.Bool.{lt-leb}
 use Rattle.code.specs.Sum.{pick}
@@ -8,10 +8,9 @@ use Rattle.code.specs.SumLaws.{clash}
 use Rattle.code.specs.Bound.{Good}
 use Rattle.shape.specs.declared.refusal.Refusal.{Refusal}
 use Rattle.shape.specs.declared.refusal.Refusal.TheVariants.{Place}
-use Rattle.shape.specs.declared.refusal.Answer.TheVariants.{Done, Refused}
 use Rattle.shape.specs.Refusal.{number_of}
 use Rattle.shape.specs.Limits.{Limits}
-use Rattle.shape.specs.Call.{bytes_of, Answered}
+use Rattle.shape.specs.Call.{bytes_of, Answer, Answered}
 use Rattle.shape.specs.JudgedCall.{unnamed, last_number}
 use Rattle.shape.specs.CallLaws.{done_refused}
 use Rattle.stripe.specs.OpenedLaws.{call_zero}
@@ -69,14 +68,14 @@ module _ (n r s e size i j o len : ℕ) (l : Limits n r s e) (g : Good n r s) wh
     placed t w = last_number n r s e l g size (pick (place_outside n r e i j o len) 9 0) q ∙ ap (λ (c : Bool). pick c 9 0) w
 
     -- 9: row, strip or run outside
-    pub answered_outside : place_outside n r e i j o len ≡ true → Answered n r s (write_number n r s e size i j o len) (Refused Place)
+    pub answered_outside : place_outside n r e i j o len ≡ true → Answered n r s (write_number n r s e size i j o len) (Err Place)
     answered_outside w = record { is = sym (placed true w); named = λ z v. unnamed n r s z (λ k. five z v k) }
       where
-        five : (z : Refusal) → Refused Place ≡ Refused z → number_of z ≡ 5 → ⊥
+        five : (z : Refusal) → ◌≡◌ {A = Answer} (Err Place) (Err z) → number_of z ≡ 5 → ⊥
         five z v k = let m : Place ≡ z = cc in let y : ◌≡◌ {A = ℕ} 9 5 = ap number_of m ∙ k in omega arith
 
     -- 0
-    pub answered_done : place_outside n r e i j o len ≡ false → Answered n r s (write_number n r s e size i j o len) Done
+    pub answered_done : place_outside n r e i j o len ≡ false → Answered n r s (write_number n r s e size i j o len) (Ok tt)
     answered_done w = record { is = sym (placed false w); named = λ z v. done_refused z v }
 
 -- number 0 is given there always

@@ -4,7 +4,6 @@
 mod encoding;
 mod place;
 mod reading;
-mod scrubbing;
 
 ghost use Rattle.std.specs.Prelude.{◌≡◌, length};
 ghost use Rattle.shape.specs.Call.{Answered};
@@ -14,34 +13,28 @@ ghost use Rattle.stripe.specs.Write.{Writes};
 ghost use Rattle.stripe.specs.Read.{read_number, read_part};
 ghost use Rattle.stripe.specs.Scrub.{Scrubs};
 
-pub use scrubbing::Scrubbed;
-use shape::{Answer, Judged, Refusal};
+use finding::Counts;
+use shape::{Refusal, Shape};
 
 // Lines 1 to 6: the judged shape, which is refused also where the buffer's length is not its size.
-pub fn opened(n: usize, r: usize, s: usize, e: usize, len: usize) -> Judged
+pub fn opened(n: usize, r: usize, s: usize, e: usize, len: usize) -> Result<Shape, Refusal>
     ensures { Opens n r s e len result }
 {
-    let judged = shape::judge(n, r, s, e);
-    let Judged::Good(_, size) = judged else {
-        return judged;
-    };
+    let (shape, size) = shape::judge(n, r, s, e)?;
     let other = len != size;
     if other {
-        return Judged::Refused(Refusal::Length);
+        return Err(Refusal::Length);
     }
-    judged
+    Ok(shape)
 }
 
 // Keeps all data and sets every H and U.
-pub fn encode(n: usize, r: usize, s: usize, e: usize, stripe: &mut [u8]) -> Answer
+pub fn encode(n: usize, r: usize, s: usize, e: usize, stripe: &mut [u8]) -> Result<(), Refusal>
     ensures { Encodes n r s e stripe.old stripe.new result }
 {
-    let judged = opened(n, r, s, e, stripe.len());
-    let Judged::Good(shape, _) = judged else {
-        return judged.answer();
-    };
+    let shape = opened(n, r, s, e, stripe.len())?;
     encoding::encode_shape(shape, stripe);
-    Answer::Done
+    Ok(())
 }
 
 // Replaces the bytes of a data element from offset on by the run; H of its row and U of its diagonal follow.
@@ -55,18 +48,15 @@ pub fn write(
     strip: usize,
     offset: usize,
     run: &[u8],
-) -> Answer
+) -> Result<(), Refusal>
     ensures { Writes n r s e row strip offset run.now stripe.old stripe.new result }
 {
-    let judged = opened(n, r, s, e, stripe.len());
-    let Judged::Good(shape, _) = judged else {
-        return judged.answer();
-    };
+    let shape = opened(n, r, s, e, stripe.len())?;
     if place::outside(shape, row, strip, offset, run.len()) {
-        return Answer::Refused(Refusal::Place);
+        return Err(Refusal::Place);
     }
     patch::write_shape(shape, stripe, row, strip, offset, run);
-    Answer::Done
+    Ok(())
 }
 
 // Why a read of this row and strip is refused, or that it is not.
@@ -78,17 +68,14 @@ pub fn read_check(
     stripe: &[u8],
     row: usize,
     strip: usize,
-) -> Answer
+) -> Result<(), Refusal>
     ensures { Answered n r s (read_number n r s e (length stripe.now) row strip) result }
 {
-    let judged = opened(n, r, s, e, stripe.len());
-    let Judged::Good(shape, _) = judged else {
-        return judged.answer();
-    };
+    let shape = opened(n, r, s, e, stripe.len())?;
     if place::outside(shape, row, strip, 0, 0) {
-        return Answer::Refused(Refusal::Place);
+        return Err(Refusal::Place);
     }
-    Answer::Done
+    Ok(())
 }
 
 // The element of this row and strip, as that part of the stripe; an empty part where read_check refuses.
@@ -105,8 +92,7 @@ pub fn read(
 {
     let len = stripe.len();
     let none = &stripe[0..0];
-    let judged = opened(n, r, s, e, len);
-    let Judged::Good(shape, _) = judged else {
+    let Ok(shape) = opened(n, r, s, e, len) else {
         return none;
     };
     if place::outside(shape, row, strip, 0, 0) {
@@ -116,16 +102,9 @@ pub fn read(
 }
 
 // Counts the rows whose H is wrong and the diagonals whose U is wrong, and says what that finds.
-pub fn scrub(n: usize, r: usize, s: usize, e: usize, stripe: &[u8]) -> Scrubbed
+pub fn scrub(n: usize, r: usize, s: usize, e: usize, stripe: &[u8]) -> Result<Counts, Refusal>
     ensures { Scrubs n r s e stripe.now result }
 {
-    let judged = opened(n, r, s, e, stripe.len());
-    let Judged::Good(shape, _) = judged else {
-        return scrubbing::refused(judged);
-    };
-    let counts = finding::scrub_shape(shape, stripe);
-    let a = counts.rows;
-    let b = counts.diagonals;
-    let x = counts.finding;
-    Scrubbed::Counted(a, b, x)
+    let shape = opened(n, r, s, e, stripe.len())?;
+    Ok(finding::scrub_shape(shape, stripe))
 }

@@ -10,16 +10,12 @@ use Rattle.code.specs.Sound.{SoundStripe}
 use Rattle.shape.specs.declared.shapes.Shape.{Shape}
 use Rattle.shape.specs.declared.refusal.Refusal.{Refusal}
 use Rattle.shape.specs.declared.refusal.Refusal.TheVariants.{Mask, Many}
-use Rattle.shape.specs.declared.refusal.Answer.{Answer}
-use Rattle.shape.specs.declared.refusal.Answer.TheVariants as answer
 use Rattle.shape.specs.Refusal.{number_of}
 use Rattle.shape.specs.Mask.{lost_in, above_test}
 use Rattle.shape.specs.Call.{call_number, answer_number, Answered}
 use Rattle.shape.specs.JudgedCall.{last_number}
 use Rattle.shape.specs.CallLaws.{done_refused}
 use Rattle.finding.specs.declared.Finding.{Finding}
-use Rattle.stripe.specs.declared.scrubbing.Scrubbed.{Scrubbed}
-use Rattle.stripe.specs.declared.scrubbing.Scrubbed.TheVariants as scrubbed
 use Rattle.stripe.specs.Write.{Writes}
 use Rattle.stripe.specs.WriteNumber.{number_accepted}
 use Rattle.stripe.specs.Read.{read_number, read_part}
@@ -44,10 +40,10 @@ module _ (h : Shape) (b s : List ℕ) (o : ℕ) (p : o ≡ low_first (take 2 (dr
   there : Writes h.n h.r h.s h.e (get_or b 0 0) (get_or b 1 0) (low_first (take 2 (drop 2 b))) (get_or b 4 0 ∷ []) s a x
   there = subst (λ (q : ℕ). Writes h.n h.r h.s h.e (get_or b 0 0) (get_or b 1 0) q (get_or b 4 0 ∷ []) s a x) p w
 
-  pub write_done : x ≡ answer.Done → (Done ≡ write_reply h b s) × (a ≡ write_stripe h b s)
+  pub write_done : x ≡ Ok tt → (Done ≡ write_reply h b s) × (a ≡ write_stripe h b s)
   write_done q = (answered_done _ _ _ _ Done x there.answer q, there.bytes)
 
-  pub write_refused : (y : Refusal) → x ≡ answer.Refused y → (z : Reply) → z ≡ Refused (number_of y) → (z ≡ write_reply h b s) × (a ≡ write_stripe h b s)
+  pub write_refused : (y : Refusal) → x ≡ Err y → (z : Reply) → z ≡ Refused (number_of y) → (z ≡ write_reply h b s) × (a ≡ write_stripe h b s)
   write_refused y q z e = (e ∙ answered_refused _ _ _ _ Done x there.answer y q, there.bytes)
 
 -- ---- read
@@ -55,7 +51,7 @@ module _ (h : Shape) (b s : List ℕ) (o : ℕ) (p : o ≡ low_first (take 2 (dr
 module _ (h : Shape) (b s : List ℕ) (x : Answer)
     (w : Answered h.n h.r h.s (read_number h.n h.r h.s h.e (length s) (get_or b 0 0) (get_or b 1 0)) x) where
   -- an element that is read has a first byte
-  pub read_some : x ≡ answer.Done → (t : List ℕ) → t ≡ read_part h.n h.r h.s h.e (get_or b 0 0) (get_or b 1 0) s → 0 < length t
+  pub read_some : x ≡ Ok tt → (t : List ℕ) → t ≡ read_part h.n h.r h.s h.e (get_or b 0 0) (get_or b 1 0) s → 0 < length t
   read_some q t e = some (sym w.is ∙ ap answer_number q)
     where
       some : read_number h.n h.r h.s h.e (length s) (get_or b 0 0) (get_or b 1 0) ≡ 0 → 0 < length t
@@ -67,10 +63,10 @@ module _ (h : Shape) (b s : List ℕ) (x : Answer)
             (number_accepted h.n h.r h.s h.e (length s) (get_or b 0 0) (get_or b 1 0) 0 0 z).limits.e_low,
           )
 
-  pub read_done : x ≡ answer.Done → (t : List ℕ) → t ≡ read_part h.n h.r h.s h.e (get_or b 0 0) (get_or b 1 0) s → One (get_or t 0 0) ≡ read_reply h b s
+  pub read_done : x ≡ Ok tt → (t : List ℕ) → t ≡ read_part h.n h.r h.s h.e (get_or b 0 0) (get_or b 1 0) s → One (get_or t 0 0) ≡ read_reply h b s
   read_done q t e = ap (λ (u : List ℕ). One (get_or u 0 0)) e ∙ answered_done _ _ _ _ _ x w q
 
-  pub read_refused : (y : Refusal) → x ≡ answer.Refused y → (z : Reply) → z ≡ Refused (number_of y) → z ≡ read_reply h b s
+  pub read_refused : (y : Refusal) → x ≡ Err y → (z : Reply) → z ≡ Refused (number_of y) → z ≡ read_reply h b s
   read_refused y q z e = e ∙ answered_refused _ _ _ _ _ x w y q
 
 -- ---- scrub
@@ -81,7 +77,7 @@ module _ (h : Shape) (s : List ℕ) (x : Scrubbed) (w : Scrubs h.n h.r h.s h.e s
       ap₂ (λ (u v : ℕ). Two u v) (w.rows p q f e) (w.diagonals p q f e)
       ∙ replied_done (call_number h.n h.r h.s h.e (length s) 0) _ (sym w.number ∙ ap scrubbed_number e)
 
-  pub scrub_refused : (y : Refusal) → x ≡ scrubbed.Refused y → (z : Reply) → z ≡ Refused (number_of y) → z ≡ scrub_reply h s
+  pub scrub_refused : (y : Refusal) → x ≡ Err y → (z : Reply) → z ≡ Refused (number_of y) → z ≡ scrub_reply h s
   scrub_refused y q z e = e ∙ replied_refused (call_number h.n h.r h.s h.e (length s) 0) _ y (sym (ap scrubbed_number q) ∙ w.number)
 
 -- ---- rebuild
@@ -119,12 +115,12 @@ module _ (h : Shape) (b s : List ℕ) (k : Ready h s) (mask : ℕ) (p : mask ≡
       accepted : (len : ℕ) → len ≡ length s → Accepted h.n h.r h.s h.e len mask
       accepted len q = record { limits = k.limits; good = k.good; sized = q ∙ k.size; strips = strips; few = few }
 
-      pub rebuild_back : (x ≡ answer.Done) × (a ≡ s)
+      pub rebuild_back : (x ≡ Ok tt) × (a ≡ s)
       rebuild_back = rebuild_gives h.n h.r h.s h.e mask t (accepted (length t) ruins.kept.size) a x w s sound ruins.kept
 
       pub rebuild_done : (lost : ℕ) → lost ≡ count 64 (lost_in mask) → One lost ≡ rebuild_reply h b s
       rebuild_done lost q =
           of_body (One lost) (ap One q ∙ replied_done _ _ (accepted_number h.n h.r h.s h.e (length s) mask 0 (accepted (length s) refl)))
 
-      pub rebuild_never : (y : Refusal) → x ≡ answer.Refused y → {A : Type 0} → A
+      pub rebuild_never : (y : Refusal) → x ≡ Err y → {A : Type 0} → A
       rebuild_never y q = done_refused y (sym rebuild_back.0 ∙ q)

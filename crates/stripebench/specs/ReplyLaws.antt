@@ -3,8 +3,6 @@ use Rattle.std.specs.Prelude.{◌≡◌, Bool, ℕ}
 use Rattle.std.proofs.Common.{sym, ap, ◌∙◌, arith, eq-eqb, ne_eqb}
 use Rattle.code.specs.Sum.{pick}
 use Rattle.shape.specs.declared.refusal.Refusal.{Refusal}
-use Rattle.shape.specs.declared.refusal.Answer.{Answer}
-use Rattle.shape.specs.declared.refusal.Answer.TheVariants as answer
 use Rattle.shape.specs.Refusal.{number_of, refusal_some}
 use Rattle.shape.specs.Call.{answer_number, Answered}
 use Rattle.stripebench.specs.declared.replies.Reply.{Reply}
@@ -23,8 +21,8 @@ replied_refused number done y q =
 -- ---- by the answer
 
 module _ (n r s number : ℕ) (done : Reply) (x : Answer) (a : Answered n r s number x) where
-  pub answered_done : x ≡ answer.Done → done ≡ replied number done
+  pub answered_done : x ≡ Ok tt → done ≡ replied number done
   answered_done q = replied_done number done (sym a.is ∙ ap answer_number q)
 
-  pub answered_refused : (y : Refusal) → x ≡ answer.Refused y → Refused (number_of y) ≡ replied number done
+  pub answered_refused : (y : Refusal) → x ≡ Err y → Refused (number_of y) ≡ replied number done
   answered_refused y q = replied_refused number done y (sym (ap answer_number q) ∙ a.is)

@@ -9,8 +9,6 @@ use Rattle.code.specs.AlongLaws.{along_nil}
 use Rattle.code.specs.Shift.{shift}
 use Rattle.element.specs.Filled.{Filled}
 use Rattle.shape.specs.declared.shapes.Shape.{Shape}
-use Rattle.shape.specs.declared.Judged.{Judged}
-use Rattle.shape.specs.declared.Judged.TheVariants as judged
 use Rattle.shape.specs.declared.refusal.Refusal.{Refusal}
 use Rattle.shape.specs.declared.refusal.Refusal.TheVariants.{Length}
 use Rattle.shape.specs.Refusal.{number_of, refusal_some}
@@ -84,11 +82,11 @@ module _ (b : List ℕ) (c : Current) (room : List ℕ) (hold : Holds c room) wh
     there : Judges (get_or b 0 0) (get_or b 1 0) (get_or b 2 0) (low_first (take 2 (drop 3 b))) x
     there = subst (λ (u : ℕ). Judges (get_or b 0 0) (get_or b 1 0) (get_or b 2 0) u x) p j
 
-    pub set_refused : (y : Refusal) → x ≡ judged.Refused y → (z : Reply) → z ≡ Refused (number_of y)
+    pub set_refused : (y : Refusal) → x ≡ Err y → (z : Reply) → z ≡ Refused (number_of y)
         → Acts Judge b c room room (record { current = c; reply = z }) × Holds c room
     set_refused y q z w = unchanged y (refused_answered _ _ _ _ x there y q (size_of (shape_of b)) _).is z w
 
-    module _ (g : Shape) (m : ℕ) (q : x ≡ judged.Good g m) where
+    module _ (g : Shape) (m : ℕ) (q : x ≡ Ok (g, m)) where
       number : (t : Bool) → ltb 32768 (size_of (shape_of b)) ≡ t → set_number (shape_of b) ≡ pick t 6 0
       number t w =
           last_number _ _ _ _ (good_limits _ _ _ _ x there g m q) (good_good _ _ _ _ x there g m q) (size_of (shape_of b)) (pick (ltb 32768 (size_of (shape_of b))) 6 0) refl

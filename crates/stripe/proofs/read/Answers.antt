@@ -1,29 +1,24 @@
 -- `stripe::read` meets its contract: see `Calls`. Assumes nothing.
 use Rattle.std.proofs.Common.{sym, ◌∙◌}
-use Rattle.stripe.specs.Calls.{shape_limits, shape_size, inside_shape, read_none, read_outside, read_inside}
+use Rattle.stripe.specs.Calls.{shape_size, inside_shape, read_none, read_outside, read_inside}
 use Rattle.stripe.proofs.read.Goals as goal
 
 pub returns-in_default : goal.returns-in_default
 returns-in_default c =
-    read_none _ _ _ _ c.args.stripe.now _ c.opened-judged.ensures _ c.in_default.is _ _
-
-pub outside-requires : goal.outside-requires
-outside-requires c =
-    shape_limits _ _ _ _ c.args.stripe.now _ c.opened-judged.ensures _ _ c.in-Good.is
+    read_none _ _ _ _ c.args.stripe.now _ c.opened.ensures _ c.in_default.is _ _
 
 pub returns-then-outside : goal.returns-then-outside
 returns-then-outside c =
-    read_outside _ _ _ _ c.args.stripe.now _ c.opened-judged.ensures _ _ c.in-Good.is _ _ (sym c.outside.ensures ∙ c.if-outside.true)
+    read_outside _ _ _ _ c.args.stripe.now _ c.opened.ensures _ c.in-Ok.is _ _ (sym c.outside.ensures ∙ c.if-outside.true)
 
 pub part-requires : goal.part-requires
 part-requires c =
-    let inside = inside_shape _ _ _ _ c.args.stripe.now _ c.opened-judged.ensures _ _ c.in-Good.is _ _ 0 0 (sym c.outside.ensures ∙ c.if-outside.false) in
+    let inside = inside_shape _ _ _ _ c.args.stripe.now _ c.opened.ensures _ c.in-Ok.is _ _ 0 0 (sym c.outside.ensures ∙ c.if-outside.false) in
     record {
-      limits = shape_limits _ _ _ _ c.args.stripe.now _ c.opened-judged.ensures _ _ c.in-Good.is;
-      size = shape_size _ _ _ _ c.args.stripe.now _ c.opened-judged.ensures _ _ c.in-Good.is;
+      size = shape_size _ _ _ _ c.args.stripe.now _ c.opened.ensures _ c.in-Ok.is;
       place = (inside.0, inside.1);
     }
 
 pub returns : goal.returns
 returns c =
-    read_inside _ _ _ _ c.args.stripe.now _ c.opened-judged.ensures _ _ c.in-Good.is _ _ _ (sym c.outside.ensures ∙ c.if-outside.false) c.part.ensures
+    read_inside _ _ _ _ c.args.stripe.now _ c.opened.ensures _ c.in-Ok.is _ _ _ (sym c.outside.ensures ∙ c.if-outside.false) c.part.ensures
