@@ -90,7 +90,7 @@ fn found(shape: Shape, rows: Tally, diagonals: Tally) -> Finding
 
 // Scrub of a buffer of the shape's size: each line is listed and read once.
 pub fn scrub_shape(shape: Shape, stripe: &[u8]) -> Counts
-    requires size { length stripe.now ≡ bytes_of shape.n shape.r shape.e }
+    requires { length stripe.now ≡ bytes_of shape.n shape.r shape.e }
     ensures { Finds (shift shape.n shape.r shape.s) shape.e stripe.now result }
 {
     let r = shape.r;

@@ -9,7 +9,7 @@ use shape::Shape;
 
 // The place of row i of strip j: row r is the strip's U, strip n holds the H, and the corner where they would meet is not stored.
 pub fn place(shape: Shape, i: usize, j: usize) -> usize
-    requires stored { (i ≤ shape.r) × (j ≤ shape.n) × (i + j < shape.r + shape.n) }
+    requires { (i ≤ shape.r) × (j ≤ shape.n) × (i + j < shape.r + shape.n) }
     ensures { Among (places (shift shape.n shape.r shape.s)) (X (shift shape.n shape.r shape.s) i j) result }
 {
     j * (shape.r + 1) + i
@@ -17,7 +17,7 @@ pub fn place(shape: Shape, i: usize, j: usize) -> usize
 
 // The byte where row i of strip j starts.
 fn start(shape: Shape, i: usize, j: usize) -> usize
-    requires stored { (i ≤ shape.r) × (j ≤ shape.n) × (i + j < shape.r + shape.n) }
+    requires { (i ≤ shape.r) × (j ≤ shape.n) × (i + j < shape.r + shape.n) }
     ensures { result ≡ X (shift shape.n shape.r shape.s) i j * shape.e }
 {
     place(shape, i, j) * shape.e

@@ -20,7 +20,7 @@ struct Touched {
 
 // The places of row and strip, of their H and of their U.
 fn places(shape: Shape, row: usize, strip: usize) -> Touched
-    requires place { (row < shape.r) × (strip < shape.n) }
+    requires { (row < shape.r) × (strip < shape.n) }
     ensures { Touches (shift shape.n shape.r shape.s) row strip result }
 {
     let n = shape.n;

@@ -1,6 +1,6 @@
 -- How mend meets its contract: two strips cleared are a pair cleared, a pair is the lost set of its mask, and where nothing is lost nothing
 -- changes. And that contract leaves nothing open. Assumes nothing.
-use Rattle.std.specs.Prelude.{ℕ, ◌<◌, ◌≡◌, refl, ◌⊎◌, Bool, true, false, List, length, get_or}
+use Rattle.std.specs.Prelude.{ℕ, ◌<◌, ◌≡◌, refl, ◌⊎◌, Bool, true, false, List, length, get_or, Ok, Err}
 use Rattle.std.proofs.Common.{sym, ◌∙◌, inl, inr}
 use Rattle.std.proofs.Math.Decide.{ℕ_discrete}
 use Rattle.code.specs.Place.{strip_of, at}

@@ -1,7 +1,7 @@
 -- What rebuild answers: its contract determines the answer and every byte, old bytes of lost strips have no influence, and an empty mask
 -- tells whether the stripe is sound and changes nothing. Assumes nothing.
 -- b, d == buffers before    a, c == the same afterwards    x, y == the answers
-use Rattle.std.specs.Prelude.{◌≡◌, refl, ◌↔◌, List, ℕ, ◌≤◌, length}
+use Rattle.std.specs.Prelude.{◌≡◌, refl, ◌↔◌, List, ℕ, ◌≤◌, length, Err, Ok}
 use Rattle.std.proofs.Common.{sym, ap, ◌∙◌, subst, arith}
 use Rattle.code.specs.SumLaws.{clash}
 use Rattle.code.specs.Place.{strip_of}
@@ -13,7 +13,7 @@ use Rattle.shape.specs.declared.refusal.Refusal.TheVariants.{Place, NoSound}
 use Rattle.shape.specs.Refusal.{number_of}
 use Rattle.shape.specs.Limits.{Limits}
 use Rattle.shape.specs.Mask.{lost_in}
-use Rattle.shape.specs.Call.{bytes_of, answer_number, Answered}
+use Rattle.shape.specs.Call.{bytes_of, answer_number, Answered, Answer}
 use Rattle.shape.specs.CallLaws.{answered_same}
 use Rattle.rebuild.specs.Rebuild.{last_of, rebuild_number, Kept, Agreeable, Rebuilds, Ended, is_mended, is_cleared}
 use Rattle.rebuild.specs.RebuildNumber.{Accepted, Numbered, early, late}
@@ -68,7 +68,7 @@ early_kept n r s e mask b a x w z low high h = go x refl
     is = w.answer.is ∙ h (last_of x)
 
     go : (v : Answer) → x ≡ v → a ≡ b
-    go (Ok tt) q = absurd (omega (arith, sym (ap answer_number q) ∙ is))
+    go (Ok u) q = absurd (omega (arith, sym (ap answer_number q) ∙ is))
     go (Err y) q = w.refused y q (λ v. omega (arith, sym (ap number_of v) ∙ sym (ap answer_number q) ∙ is))
 
 pub rebuild_determined : (n r s e mask : ℕ) (b a c : List ℕ) (x y : Answer) → Rebuilds n r s e mask b a x → Rebuilds n r s e mask b c y → (x ≡ y) × (a ≡ c)

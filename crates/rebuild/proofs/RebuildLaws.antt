@@ -1,7 +1,7 @@
 -- Laws of rebuild, from its contract alone: accepted, it mends or clears; a sound stripe with lost strips comes back; 0 is given exactly when
 -- some sound stripe agrees with the survivors, and 10 exactly when none does. Assumes nothing.
 -- b == the buffer before    a, c == afterwards    x, y == the answers
-use Rattle.std.specs.Prelude.{◌≡◌, refl, ◌↔◌, Bool, true, false, List, ℕ, ◌*◌, ◌<◌, length}
+use Rattle.std.specs.Prelude.{◌≡◌, refl, ◌↔◌, Bool, true, false, List, ℕ, ◌*◌, ◌<◌, length, Err, Ok}
 use Rattle.std.proofs.Common.{sym, ap, ◌∙◌, subst, arith}
 use Rattle.code.specs.Place.{strip_of, at}
 use Rattle.code.specs.Layout.{Layout, Fair, height, places}
@@ -12,7 +12,7 @@ use Rattle.shape.specs.declared.refusal.Refusal.{Refusal}
 use Rattle.shape.specs.declared.refusal.Refusal.TheVariants.{NoSound}
 use Rattle.shape.specs.Refusal.{number_of, number_determined}
 use Rattle.shape.specs.Mask.{lost_in}
-use Rattle.shape.specs.Call.{answer_number}
+use Rattle.shape.specs.Call.{answer_number, Answer}
 use Rattle.shape.specs.CallLaws.{done_refused}
 use Rattle.shape.specs.LimitsLaws.{limits_fair}
 use Rattle.rebuild.specs.Rebuild.{last_of, Kept, Agreeable, Mended, Cleared, Rebuilds, Ended, is_mended, is_cleared}
@@ -59,7 +59,7 @@ module _ (n r s e mask : ℕ) (b : List ℕ) (k : Accepted n r s e (length b) ma
   ended a x w = go x refl (w.answer.is ∙ accepted_number n r s e (length b) mask (last_of x) k)
     where
       go : (z : Answer) → x ≡ z → answer_number x ≡ last_of x → Ended (shift n r s) e (lost_in mask) b a z
-      go (Ok tt) q h = is_mended (w.done q)
+      go (Ok u) q h = is_mended (w.done q)
       go (Err y) q h = at (number_determined y NoSound (λ z. omega (arith, ten)) ten)
         where
           ten : number_of y ≡ 10

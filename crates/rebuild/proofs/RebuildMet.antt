@@ -1,5 +1,5 @@
 -- How rebuild's contract is met: refused by lines 1 to 6, by 7, by 8, done, and 10. Assumes nothing.
-use Rattle.std.specs.Prelude.{◌≡◌, refl, ◌≢◌, Bool, true, false, List, ℕ, ◌<◌, ltb, length}
+use Rattle.std.specs.Prelude.{◌≡◌, refl, ◌≢◌, Bool, true, false, List, ℕ, ◌<◌, ltb, length, Err, Ok}
 use Rattle.std.proofs.Common.{sym, ap, ◌∙◌, subst, arith, lt-ltb}
 use Rattle.code.specs.Sum.{pick}
 use Rattle.code.specs.Below.{count}
@@ -10,7 +10,7 @@ use Rattle.shape.specs.declared.refusal.Refusal.TheVariants.{Mask, Many, NoSound
 use Rattle.shape.specs.Refusal.{number_of}
 use Rattle.shape.specs.Limits.{Limits}
 use Rattle.shape.specs.Mask.{lost_in, above_test}
-use Rattle.shape.specs.Call.{bytes_of, call_number, Answered}
+use Rattle.shape.specs.Call.{bytes_of, call_number, Answer, Answered}
 use Rattle.shape.specs.CallLaws.{done_refused}
 use Rattle.shape.specs.JudgedCall.{unnamed, last_number}
 use Rattle.rebuild.specs.Rebuild.{rebuild_number, Mended, Cleared, Rebuilds}
@@ -21,7 +21,7 @@ use Rattle.rebuild.proofs.RebuildNumberLaws.{numbered, accepted_number}
 plain : (n r s number : ℕ) (y : Refusal) → number_of y ≡ number → number ≢ 5 → Answered n r s number (Err y)
 plain n r s number y q ne = record { is = q; named = λ z v. unnamed n r s z (λ k. ne (sym q ∙ ap number_of (it z v) ∙ k)) }
   where
-    it : (z : Refusal) → Err y ≡ Err z → y ≡ z
+    it : (z : Refusal) → ◌≡◌ {A = Answer} (Err y) (Err z) → y ≡ z
     it z v = cc
 
 module _ (n r s e mask : ℕ) (b : List ℕ) where
@@ -36,7 +36,7 @@ module _ (n r s e mask : ℕ) (b : List ℕ) where
         refused = λ z q ne. refl;
       }
     where
-      it : Err y ≡ Err NoSound → y ≡ NoSound
+      it : ◌≡◌ {A = Answer} (Err y) (Err NoSound) → y ≡ NoSound
       it q = cc
 
       other : y ≡ NoSound → Numbered n r s e (length b) mask → ⊥
@@ -88,5 +88,5 @@ module _ (n r s e mask : ℕ) (b : List ℕ) where
           refused = λ y z ne. absurd (ne (it y z));
         }
       where
-        it : (y : Refusal) → Err NoSound ≡ Err y → y ≡ NoSound
+        it : (y : Refusal) → ◌≡◌ {A = Answer} (Err NoSound) (Err y) → y ≡ NoSound
         it y z = cc

@@ -1,7 +1,7 @@
 -- REBUILD mends the lost strips of a mask: the stripe becomes the one sound stripe that agrees with the survivors; where there is none it
 -- answers 10 and clears the lost strips; refused otherwise, it changes no byte. Assumes nothing.
 -- lost j == strip j is lost    rebuild_number n r s e len mask last == the first of the numbers 1 to 8 whose line holds; last where none does
-use Rattle.std.specs.Prelude.{◌≡◌, ◌≢◌, Bool, true, List, ℕ, ◌<◌, ltb, length}
+use Rattle.std.specs.Prelude.{◌≡◌, ◌≢◌, Bool, true, List, ℕ, ◌<◌, ltb, length, Ok, Err}
 use Rattle.code.specs.Sum.{pick}
 use Rattle.code.specs.Below.{count}
 use Rattle.code.specs.Code.{Agree}
@@ -12,7 +12,7 @@ use Rattle.code.specs.Shift.{shift}
 use Rattle.shape.specs.declared.refusal.Refusal.{Refusal}
 use Rattle.shape.specs.declared.refusal.Refusal.TheVariants.{NoSound}
 use Rattle.shape.specs.Mask.{lost_in, above_test}
-use Rattle.shape.specs.Call.{call_number, Answered}
+use Rattle.shape.specs.Call.{call_number, Answered, Answer}
 
 -- line 7: the mask has a one above bit n; line 8: it has more than two ones
 abbrev pub rebuild_number : ℕ → ℕ → ℕ → ℕ → ℕ → ℕ → ℕ → ℕ
@@ -21,7 +21,7 @@ rebuild_number n r s e len mask last =
 
 -- what comes last, where none of 1 to 8 holds: 0 where it is done, 10 where it is not; done and none below say when
 abbrev pub last_of : Answer → ℕ
-last_of (Ok tt) = 0
+last_of (Ok u) = 0
 last_of (Err y) = 10
 
 -- after has the length and every survivor of before

@@ -10,24 +10,28 @@ ghost use Rattle.rebuild.specs.Rebuild.{Rebuilds};
 
 pub use mending::mend;
 use shape::lost::{above, lost_count};
-use shape::{Answer, Judged, Refusal};
+use shape::Refusal;
 
 // The strips of the mask are lost: the stripe becomes the sound one that agrees with the rest.
-pub fn rebuild(n: usize, r: usize, s: usize, e: usize, stripe: &mut [u8], mask: u64) -> Answer
+pub fn rebuild(
+    n: usize,
+    r: usize,
+    s: usize,
+    e: usize,
+    stripe: &mut [u8],
+    mask: u64,
+) -> Result<(), Refusal>
     ensures { Rebuilds n r s e mask stripe.old stripe.new result }
 {
-    let judged = stripe::opened(n, r, s, e, stripe.len());
-    let Judged::Good(shape, _) = judged else {
-        return judged.answer();
-    };
+    let shape = stripe::opened(n, r, s, e, stripe.len())?;
     if above(mask, n) {
-        return Answer::Refused(Refusal::Mask);
+        return Err(Refusal::Mask);
     }
     if 2 < lost_count(mask) {
-        return Answer::Refused(Refusal::Many);
+        return Err(Refusal::Many);
     }
     if mend(shape, stripe, mask) {
-        return Answer::Done;
+        return Ok(());
     }
-    Answer::Refused(Refusal::NoSound)
+    Err(Refusal::NoSound)
 }

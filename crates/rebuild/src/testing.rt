@@ -8,7 +8,7 @@ use shape::Shape;
 
 // Whether every line t with used[t] zero sums to zero in every byte.
 pub fn unused_zero(shape: Shape, stripe: &[u8], used: &[u8; 64]) -> bool
-    requires size { length stripe.now ≡ bytes_of shape.n shape.r shape.e }
+    requires { length stripe.now ≡ bytes_of shape.n shape.r shape.e }
     ensures { Tests (shift shape.n shape.r shape.s) shape.e used.now stripe.now result }
 {
     let m = shape.r + shape.n;

@@ -17,7 +17,7 @@ fn parity_in(shape: Shape, t: usize) -> usize
 
 // Every line's parity in turn: none stands on a line that is already set.
 pub(crate) fn encode_shape(shape: Shape, stripe: &mut [u8])
-    requires size { length stripe.old ≡ bytes_of shape.n shape.r shape.e }
+    requires { length stripe.old ≡ bytes_of shape.n shape.r shape.e }
     ensures { EncodedFrom (shift shape.n shape.r shape.s) shape.e stripe.old stripe.new }
 {
     let last = shape.r + shape.n - 1;

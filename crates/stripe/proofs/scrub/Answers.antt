@@ -9,7 +9,7 @@ returns-in_err-shape c =
 
 pub scrub_shape-requires : goal.scrub_shape-requires
 scrub_shape-requires c =
-    record { size = shape_size _ _ _ _ c.args.stripe.now _ c.opened.ensures _ c.in_ok-shape.was }
+    shape_size _ _ _ _ c.args.stripe.now _ c.opened.ensures _ c.in_ok-shape.was
 
 pub returns : goal.returns
 returns c =

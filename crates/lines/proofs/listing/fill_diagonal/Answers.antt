@@ -10,7 +10,7 @@ overflow_mul-back c =
 
 pub start-o-requires : goal.start-o-requires
 start-o-requires c =
-    let below = c.meets-j.ensures.below in record { stored = (omega arith, omega arith, omega arith) }
+    let below = c.meets-j.ensures.below in (omega arith, omega arith, omega arith)
 
 pub loop-i-init : goal.loop-i-init
 loop-i-init c =
@@ -36,7 +36,7 @@ loop-i-preserved c =
 
 pub start-requires : goal.start-requires
 start-requires c =
-    let below = c.meets-j.ensures.below in record { stored = (omega arith, omega arith, omega arith) }
+    let below = c.meets-j.ensures.below in (omega arith, omega arith, omega arith)
 
 pub returns : goal.returns
 returns c =

@@ -6,12 +6,12 @@ use Rattle.lines.proofs.listing.place.Goals as goal
 
 pub overflow_mul-result : goal.overflow_mul-result
 overflow_mul-result c =
-    omega (arith, (place_stored c.args.shape.n c.args.shape.r c.args.i c.args.j c.requires.stored.0 c.requires.stored.1 c.requires.stored.2), places_most _ _ _ _ c.args.shape.limits)
+    omega (arith, (place_stored c.args.shape.n c.args.shape.r c.args.i c.args.j c.requires.0 c.requires.1 c.requires.2), places_most _ _ _ _ c.args.shape.limits)
 
 pub overflow_add-result-2 : goal.overflow_add-result-2
 overflow_add-result-2 c =
-    omega (arith, (place_stored c.args.shape.n c.args.shape.r c.args.i c.args.j c.requires.stored.0 c.requires.stored.1 c.requires.stored.2), places_most _ _ _ _ c.args.shape.limits)
+    omega (arith, (place_stored c.args.shape.n c.args.shape.r c.args.i c.args.j c.requires.0 c.requires.1 c.requires.2), places_most _ _ _ _ c.args.shape.limits)
 
 pub returns : goal.returns
 returns c =
-    record { is = refl; below = (place_stored c.args.shape.n c.args.shape.r c.args.i c.args.j c.requires.stored.0 c.requires.stored.1 c.requires.stored.2) }
+    record { is = refl; below = (place_stored c.args.shape.n c.args.shape.r c.args.i c.args.j c.requires.0 c.requires.1 c.requires.2) }

@@ -11,7 +11,7 @@ use Rattle.rebuild.proofs.mending.mend.Goals as goal
 
 pub unused_zero-requires : goal.unused_zero-requires
 unused_zero-requires c =
-    record { size = c.requires.size }
+    c.requires.size
 
 pub returns-then-mask-eq0 : goal.returns-then-mask-eq0
 returns-then-mask-eq0 c =
@@ -23,7 +23,7 @@ pub mend_pair-requires : goal.mend_pair-requires
 mend_pair-requires c =
     let last = c.last_lost-b.ensures in
     let ordered = first_last (lost_in c.args.mask) _ _ c.first_lost-a.ensures last in
-    let within = above_last c.args.mask c.args.shape.n _ c.requires.lost.0 last in record { strips = (omega arith, omega arith); size = c.requires.size }
+    let within = above_last c.args.mask c.args.shape.n _ c.requires.lost.0 last in record { good = c.requires.good; strips = (omega arith, omega arith); size = c.requires.size }
 
 pub returns : goal.returns
 returns c =

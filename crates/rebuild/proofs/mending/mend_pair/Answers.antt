@@ -8,11 +8,11 @@ use Rattle.rebuild.proofs.mending.mend_pair.Goals as goal
 
 pub run-requires : goal.run-requires
 run-requires c =
-    record { strips = (omega arith, omega arith); size = c.requires.size; used = (refl, λ t. zeros 64 t) }
+    record { good = c.requires.good; strips = (omega arith, omega arith); size = c.requires.size; used = (refl, λ t. zeros 64 t) }
 
 pub unused_zero-requires : goal.unused_zero-requires
 unused_zero-requires c =
-    record { size = ran_size _ (limits_fair _ _ _ _ c.args.shape.limits) _ _ _ _ _ c.run.ensures ∙ c.requires.size }
+    ran_size _ (limits_fair _ _ _ _ c.args.shape.limits) _ _ _ _ _ c.run.ensures ∙ c.requires.size
 
 pub returns-then-unused_zero : goal.returns-then-unused_zero
 returns-then-unused_zero c =

@@ -10,7 +10,7 @@ pub diagonal-requires : goal.diagonal-requires
 diagonal-requires c =
     let fair = limits_fair _ _ _ _ c.args.shape.limits in
     let w = two_where _ fair (step c.args.kind c.args.row c.args.strip) c.requires.shaped (omega arith) in
-    record { place = (w.0, w.1) }
+    (w.0, w.1)
 
 pub build-requires : goal.build-requires
 build-requires c =

@@ -11,7 +11,7 @@ loop-t-init c =
 
 pub build-requires : goal.build-requires
 build-requires c =
-    let inv = c.loop-t.invariant in record { line = (omega arith, last_within _ _ _ (omega arith) c.parity_in.ensures); size = inv.0.size ∙ c.requires.size; room = inv.1 }
+    let inv = c.loop-t.invariant in record { line = (omega arith, last_within _ _ _ (omega arith) c.parity_in.ensures); size = inv.0.size ∙ c.requires; room = inv.1 }
 
 pub loop-t-preserved : goal.loop-t-preserved
 loop-t-preserved c =
