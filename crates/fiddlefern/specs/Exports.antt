@@ -1,5 +1,5 @@
 -- How the exported calls meet their contracts: each packs the answer of the call below. Assumes nothing.
-use Rattle.std.specs.Prelude.{◌≡◌, List, ℕ, ◌+◌, ◌*◌, ◌≤◌, ltb, length}
+use Rattle.std.specs.Prelude.{◌≡◌, List, ℕ, ◌+◌, ◌*◌, ◌≤◌, ltb, length, Err, Ok}
 use Rattle.std.proofs.Common.{sym, ap, ◌∙◌, subst, mul-le-mul, arith}
 use Rattle.code.specs.Sum.{pick}
 use Rattle.code.specs.Below.{count}
@@ -9,15 +9,15 @@ use Rattle.shape.specs.declared.shapes.Shape.{Shape}
 use Rattle.shape.specs.declared.refusal.Refusal.{Refusal}
 use Rattle.shape.specs.Refusal.{lower_of, upper_of}
 use Rattle.shape.specs.Answers.{bytes_most}
-use Rattle.shape.specs.Call.{call_number, answer_number, Answered}
-use Rattle.shape.specs.Judge.{Judges}
+use Rattle.shape.specs.Call.{call_number, answer_number, Answered, Answer}
+use Rattle.shape.specs.Judge.{Judges, Judged}
 use Rattle.shape.specs.JudgedCall.{good_limits, answered_small}
 use Rattle.shape.specs.Mask.{lost_in, above_test}
-use Rattle.finding.specs.declared.Finding.{Finding}
+use Rattle.finding.specs.declared.Counts.{Counts}
 use Rattle.stripe.specs.Encode.{Encodes}
 use Rattle.stripe.specs.Write.{place_outside, Writes}
 use Rattle.stripe.specs.Read.{read_number}
-use Rattle.stripe.specs.Scrub.{Scrubs}
+use Rattle.stripe.specs.Scrub.{Scrubs, Scrubbed}
 use Rattle.stripe.specs.WriteNumber.{Accepted, number_accepted}
 use Rattle.rebuild.specs.Rebuild.{last_of, Rebuilds}
 use Rattle.fiddlefern.specs.Packed.{refusal_packed, judged_packed, answer_packed, counted_packed, scrubbed_packed, SmallAnswer, JudgeAnswer, ReadAnswer, ScrubAnswer}
@@ -26,10 +26,10 @@ use Rattle.fiddlefern.specs.Packed.{refusal_packed, judged_packed, answer_packed
 
 module _ (n r s e : ℕ) (x : Judged) (j : Judges n r s e x) where
   -- a size fits into 32 bits
-  pub size_fits : (h : Shape) (b : ℕ) → x ≡ Good h b → b ≤ 4456448
+  pub size_fits : (h : Shape) (b : ℕ) → x ≡ Ok (h, b) → b ≤ 4456448
   size_fits h b q = subst (λ (z : ℕ). z ≤ 4456448) (sym (j.good h b q).1) (bytes_most n r s e (good_limits n r s e x j h b q))
 
-  pub answer_good : (h : Shape) (b : ℕ) → x ≡ Good h b → JudgeAnswer n r s e (b * 4294967296)
+  pub answer_good : (h : Shape) (b : ℕ) → x ≡ Ok (h, b) → JudgeAnswer n r s e (b * 4294967296)
   answer_good h b q = record { judged = x; judges = j; packed = sym (ap judged_packed q) }
 
   pub answer_refused : (y : Refusal) → x ≡ Err y → (k : ℕ) → k ≡ refusal_packed y → JudgeAnswer n r s e k
@@ -85,8 +85,8 @@ module _ (n r s e i j : ℕ) (b : List ℕ) (x : Answer) (a : Answered n r s (re
 -- ---- scrub
 
 module _ (n r s e : ℕ) (b : List ℕ) (x : Scrubbed) (c : Scrubs n r s e b x) where
-  pub scrub_counted : (p q : ℕ) (f : Finding) → x ≡ scrubbed.Counted p q f → (k : ℕ) → k ≡ counted_packed p q f → ScrubAnswer n r s e b k
-  scrub_counted p q f w k z = record { scrubbed = x; scrubs = c; packed = z ∙ sym (ap scrubbed_packed w) }
+  pub scrub_counted : (d : Counts) → x ≡ Ok d → (k : ℕ) → k ≡ counted_packed d.rows d.diagonals d.finding → ScrubAnswer n r s e b k
+  scrub_counted d w k z = record { scrubbed = x; scrubs = c; packed = z ∙ sym (ap scrubbed_packed w) }
 
   pub scrub_refused : (y : Refusal) → x ≡ Err y → (k : ℕ) → k ≡ refusal_packed y → ScrubAnswer n r s e b k
   scrub_refused y w k z = record { scrubbed = x; scrubs = c; packed = z ∙ sym (ap scrubbed_packed w) }

@@ -1,18 +1,18 @@
 -- How an answer becomes one 64-bit number: byte 0 is 01's number; with 5, bytes 1 and 2 are the lower and the upper strip; with 0, the upper
 -- 32 bits are judge's size or read's offset, and bytes 1 to 5 are what scrub finds. Assumes nothing.
-use Rattle.std.specs.Prelude.{◌≡◌, List, ℕ, ◌+◌, ◌*◌, ◌≤◌, length}
+use Rattle.std.specs.Prelude.{◌≡◌, List, ℕ, ◌+◌, ◌*◌, ◌≤◌, length, Err, Ok}
 use Rattle.code.specs.Layout.{X}
 use Rattle.code.specs.Shift.{shift}
 use Rattle.shape.specs.declared.refusal.Refusal.{Refusal}
 use Rattle.shape.specs.Refusal.{number_of, lower_of, upper_of}
-use Rattle.shape.specs.Judge.{Judges}
-use Rattle.shape.specs.Call.{Answered}
+use Rattle.shape.specs.Judge.{Judges, Judged}
+use Rattle.shape.specs.Call.{Answered, Answer}
 use Rattle.finding.specs.declared.Finding.{Finding}
 use Rattle.finding.specs.declared.Finding.TheVariants as finding
 use Rattle.stripe.specs.Encode.{Encodes}
 use Rattle.stripe.specs.Write.{Writes}
 use Rattle.stripe.specs.Read.{read_number}
-use Rattle.stripe.specs.Scrub.{Scrubs}
+use Rattle.stripe.specs.Scrub.{Scrubs, Scrubbed}
 use Rattle.rebuild.specs.Rebuild.{Rebuilds}
 
 abbrev pub refusal_packed : Refusal → ℕ
@@ -24,7 +24,7 @@ judged_packed (Err x) = refusal_packed x
 
 -- encode, write and rebuild, and read with v the offset of the element: what comes with 0
 abbrev pub answer_packed : ℕ → Answer → ℕ
-answer_packed v (Ok tt) = v * 4294967296
+answer_packed v (Ok u) = v * 4294967296
 answer_packed v (Err x) = refusal_packed x
 
 -- a finding's number, the row that comes with it, and the diagonal or the strip; 0 where none does
@@ -43,7 +43,7 @@ counted_packed a b f =
     a * 256 + b * 65536 + (finding_values f).0 * 16777216 + (finding_values f).1 * 4294967296 + (finding_values f).2 * 1099511627776
 
 abbrev pub scrubbed_packed : Scrubbed → ℕ
-scrubbed_packed (scrubbed.Counted a b f) = counted_packed a b f
+scrubbed_packed (Ok c) = counted_packed c.rows c.diagonals c.finding
 scrubbed_packed (Err x) = refusal_packed x
 
 -- the version of the archive: major, minor, patch

@@ -1,5 +1,5 @@
 -- What scrub finds is small enough for a byte each: the counts, the row, and the diagonal or the strip. Assumes nothing.
-use Rattle.std.specs.Prelude.{◌≡◌, Bool, true, false, List, ℕ, ◌+◌, ◌-◌, ◌≤◌, ◌<◌, eqb, length}
+use Rattle.std.specs.Prelude.{◌≡◌, Bool, true, false, List, ℕ, ◌+◌, ◌-◌, ◌≤◌, ◌<◌, eqb, length, Err, Ok}
 use Rattle.std.proofs.Common.{sym, ap, ◌∙◌, subst, mod-lt, arith}
 use Rattle.code.specs.Sum.{pick}
 use Rattle.code.specs.Below.{count, first}
@@ -12,8 +12,9 @@ use Rattle.shape.specs.Limits.{Limits}
 use Rattle.shape.specs.JudgedCall.{named_small}
 use Rattle.finding.specs.declared.Finding.{Finding}
 use Rattle.finding.specs.declared.Finding.TheVariants as finding
+use Rattle.finding.specs.declared.Counts.{Counts}
 use Rattle.finding.specs.Found.{wrong_row, wrong_diagonal, found_of, found}
-use Rattle.stripe.specs.Scrub.{scrubbed_number, Scrubs}
+use Rattle.stripe.specs.Scrub.{scrubbed_number, Scrubs, Scrubbed}
 use Rattle.stripe.specs.OpenedLaws.{call_zero}
 use Rattle.fiddlefern.specs.Packed.{finding_values, SmallFinding}
 
@@ -66,18 +67,18 @@ found_small n r s e b l =
     d = first n (wrong_diagonal (shift n r s) e b)
 
 module _ (n r s e : ℕ) (b : List ℕ) (x : Scrubbed) (c : Scrubs n r s e b x) where
-  module _ (p q : ℕ) (f : Finding) (w : x ≡ Counted p q f) where
+  module _ (d : Counts) (w : x ≡ Ok d) where
     limits : Limits n r s e
     limits = (call_zero n r s e (length b) 0 (sym c.number ∙ ap scrubbed_number w)).limits
 
-    pub rows_small : p ≤ 32
-    rows_small = let h = count_most r (wrong_row (shift n r s) e b) in omega (arith, c.rows p q f w, limits.r_high)
+    pub rows_small : d.rows ≤ 32
+    rows_small = let h = count_most r (wrong_row (shift n r s) e b) in omega (arith, (c.finds d w).rows_are, limits.r_high)
 
-    pub diagonals_small : q ≤ 32
-    diagonals_small = let h = count_most n (wrong_diagonal (shift n r s) e b) in omega (arith, c.diagonals p q f w, limits.n_high)
+    pub diagonals_small : d.diagonals ≤ 32
+    diagonals_small = let h = count_most n (wrong_diagonal (shift n r s) e b) in omega (arith, (c.finds d w).diagonals_are, limits.n_high)
 
-    pub finding_small : SmallFinding f
-    finding_small = subst SmallFinding (sym (c.finds p q f w)) (found_small n r s e b limits)
+    pub finding_small : SmallFinding d.finding
+    finding_small = subst SmallFinding (sym (c.finds d w).finding_is) (found_small n r s e b limits)
 
   pub refusal_small : (y : Refusal) → x ≡ Err y → (lower_of y ≤ 32) × (upper_of y ≤ 32)
   refusal_small y w = named_small n r s e _ y (sym (ap scrubbed_number w) ∙ c.number) (c.named y w)

@@ -6,8 +6,6 @@ mod packing;
 ghost use Rattle.fiddlefern.specs.Packed.{JudgeAnswer, EncodeAnswer, WriteAnswer, ReadAnswer, ScrubAnswer, RebuildAnswer, VersionAnswer};
 
 use packing::{packed, packed_answer, packed_count};
-use shape::{Answer, Judged};
-use stripe::Scrubbed;
 
 // Judges a shape: 0 with the stripe's size in the upper 32 bits, or the refusal.
 #[unsafe(no_mangle)]
@@ -15,8 +13,8 @@ pub extern "C" fn fiddlefern_judge(n: usize, r: usize, s: usize, e: usize) -> u6
     ensures { JudgeAnswer n r s e result }
 {
     match shape::judge(n, r, s, e) {
-        Judged::Good(_, size) => (size as u64) * 4294967296,
-        Judged::Refused(x) => packed(x),
+        Ok((_, size)) => (size as u64) * 4294967296,
+        Err(x) => packed(x),
     }
 }
 
@@ -66,8 +64,8 @@ pub extern "C" fn fiddlefern_read(
     ensures { ReadAnswer n r s e row strip stripe.now result }
 {
     match stripe::read_check(n, r, s, e, stripe, row, strip) {
-        Answer::Done => (((strip * (r + 1) + row) * e) as u64) * 4294967296,
-        Answer::Refused(x) => packed(x),
+        Ok(()) => (((strip * (r + 1) + row) * e) as u64) * 4294967296,
+        Err(x) => packed(x),
     }
 }
 
@@ -77,8 +75,8 @@ pub extern "C" fn fiddlefern_scrub(n: usize, r: usize, s: usize, e: usize, strip
     ensures { ScrubAnswer n r s e stripe.now result }
 {
     match stripe::scrub(n, r, s, e, stripe) {
-        Scrubbed::Counted(a, b, f) => packed_count(a, b, f),
-        Scrubbed::Refused(x) => packed(x),
+        Ok(counts) => packed_count(counts),
+        Err(x) => packed(x),
     }
 }
 

@@ -6,16 +6,16 @@ use Rattle.fiddlefern.proofs.fiddlefern_judge.Goals as goal
 
 pub overflow_mul-result : goal.overflow_mul-result
 overflow_mul-result c =
-    omega (arith, size_fits _ _ _ _ _ c.judge.ensures _ _ c.in-Good.is)
+    omega (arith, size_fits _ _ _ _ _ c.judge.ensures _ _ c.in-Ok.is)
 
 pub packed-requires : goal.packed-requires
 packed-requires c =
-    refused_small _ _ _ _ _ c.judge.ensures _ c.in-Refused.is
+    refused_small _ _ _ _ _ c.judge.ensures _ c.in-Err.is
 
-pub returns-in-Good : goal.returns-in-Good
-returns-in-Good c =
-    answer_good _ _ _ _ _ c.judge.ensures _ _ c.in-Good.is
+pub returns-in-Ok : goal.returns-in-Ok
+returns-in-Ok c =
+    answer_good _ _ _ _ _ c.judge.ensures _ _ c.in-Ok.is
 
-pub returns-in-Refused : goal.returns-in-Refused
-returns-in-Refused c =
-    answer_refused _ _ _ _ _ c.judge.ensures _ c.in-Refused.is _ c.packed.ensures
+pub returns-in-Err : goal.returns-in-Err
+returns-in-Err c =
+    answer_refused _ _ _ _ _ c.judge.ensures _ c.in-Err.is _ c.packed.ensures

@@ -5,32 +5,32 @@ use Rattle.fiddlefern.proofs.fiddlefern_read.Goals as goal
 
 pub overflow_add-result : goal.overflow_add-result
 overflow_add-result c =
-    omega (arith, height_fits _ _ _ c.args.e c.args.row c.args.strip c.args.stripe.now _ c.read_check.ensures c.in-Done.is)
+    omega (arith, height_fits _ _ _ c.args.e c.args.row c.args.strip c.args.stripe.now _ c.read_check.ensures c.in-Ok.is)
 
 pub overflow_mul-result : goal.overflow_mul-result
 overflow_mul-result c =
-    omega (arith, strip_fits _ _ _ c.args.e c.args.row c.args.strip c.args.stripe.now _ c.read_check.ensures c.in-Done.is)
+    omega (arith, strip_fits _ _ _ c.args.e c.args.row c.args.strip c.args.stripe.now _ c.read_check.ensures c.in-Ok.is)
 
-pub overflow_add-result-in-Done : goal.overflow_add-result-in-Done
-overflow_add-result-in-Done c =
-    omega (arith, place_fits _ _ _ c.args.e c.args.row c.args.strip c.args.stripe.now _ c.read_check.ensures c.in-Done.is)
+pub overflow_add-result-in-Ok : goal.overflow_add-result-in-Ok
+overflow_add-result-in-Ok c =
+    omega (arith, place_fits _ _ _ c.args.e c.args.row c.args.strip c.args.stripe.now _ c.read_check.ensures c.in-Ok.is)
 
-pub overflow_mul-result-in-Done : goal.overflow_mul-result-in-Done
-overflow_mul-result-in-Done c =
-    omega (arith, offset_fits _ _ _ c.args.e c.args.row c.args.strip c.args.stripe.now _ c.read_check.ensures c.in-Done.is)
+pub overflow_mul-result-in-Ok : goal.overflow_mul-result-in-Ok
+overflow_mul-result-in-Ok c =
+    omega (arith, offset_fits _ _ _ c.args.e c.args.row c.args.strip c.args.stripe.now _ c.read_check.ensures c.in-Ok.is)
 
-pub overflow_mul-result-in-Done-2 : goal.overflow_mul-result-in-Done-2
-overflow_mul-result-in-Done-2 c =
-    omega (arith, offset_fits _ _ _ c.args.e c.args.row c.args.strip c.args.stripe.now _ c.read_check.ensures c.in-Done.is)
+pub overflow_mul-result-in-Ok-2 : goal.overflow_mul-result-in-Ok-2
+overflow_mul-result-in-Ok-2 c =
+    omega (arith, offset_fits _ _ _ c.args.e c.args.row c.args.strip c.args.stripe.now _ c.read_check.ensures c.in-Ok.is)
 
 pub packed-requires : goal.packed-requires
 packed-requires c =
-    check_small _ _ _ c.args.e c.args.row c.args.strip c.args.stripe.now _ c.read_check.ensures _ c.in-Refused.is
+    check_small _ _ _ c.args.e c.args.row c.args.strip c.args.stripe.now _ c.read_check.ensures _ c.in-Err.is
 
-pub returns-in-Done : goal.returns-in-Done
-returns-in-Done c =
-    read_done _ _ _ c.args.e c.args.row c.args.strip c.args.stripe.now _ c.read_check.ensures c.in-Done.is
+pub returns-in-Ok : goal.returns-in-Ok
+returns-in-Ok c =
+    read_done _ _ _ c.args.e c.args.row c.args.strip c.args.stripe.now _ c.read_check.ensures c.in-Ok.is
 
-pub returns-in-Refused : goal.returns-in-Refused
-returns-in-Refused c =
-    read_refused _ _ _ c.args.e c.args.row c.args.strip c.args.stripe.now _ c.read_check.ensures _ c.in-Refused.is _ c.packed.ensures
+pub returns-in-Err : goal.returns-in-Err
+returns-in-Err c =
+    read_refused _ _ _ c.args.e c.args.row c.args.strip c.args.stripe.now _ c.read_check.ensures _ c.in-Err.is _ c.packed.ensures

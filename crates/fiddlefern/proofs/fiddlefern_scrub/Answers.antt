@@ -6,18 +6,18 @@ use Rattle.fiddlefern.proofs.fiddlefern_scrub.Goals as goal
 pub packed_count-requires : goal.packed_count-requires
 packed_count-requires c =
     record {
-      a_bound = (rows_small _ _ _ _ c.args.stripe.now _ c.scrub.ensures _ _ _ c.in-Counted.is, diagonals_small _ _ _ _ c.args.stripe.now _ c.scrub.ensures _ _ _ c.in-Counted.is);
-      finding = finding_small _ _ _ _ c.args.stripe.now _ c.scrub.ensures _ _ _ c.in-Counted.is;
+      counts = (rows_small _ _ _ _ c.args.stripe.now _ c.scrub.ensures _ c.in-Ok.is, diagonals_small _ _ _ _ c.args.stripe.now _ c.scrub.ensures _ c.in-Ok.is);
+      finding = finding_small _ _ _ _ c.args.stripe.now _ c.scrub.ensures _ c.in-Ok.is;
     }
 
 pub packed-requires : goal.packed-requires
 packed-requires c =
-    refusal_small _ _ _ _ c.args.stripe.now _ c.scrub.ensures _ c.in-Refused.is
+    refusal_small _ _ _ _ c.args.stripe.now _ c.scrub.ensures _ c.in-Err.is
 
-pub returns-in-Counted : goal.returns-in-Counted
-returns-in-Counted c =
-    scrub_counted _ _ _ _ c.args.stripe.now _ c.scrub.ensures _ _ _ c.in-Counted.is _ c.packed_count.ensures
+pub returns-in-Ok : goal.returns-in-Ok
+returns-in-Ok c =
+    scrub_counted _ _ _ _ c.args.stripe.now _ c.scrub.ensures _ c.in-Ok.is _ c.packed_count.ensures
 
-pub returns-in-Refused : goal.returns-in-Refused
-returns-in-Refused c =
-    scrub_refused _ _ _ _ c.args.stripe.now _ c.scrub.ensures _ c.in-Refused.is _ c.packed.ensures
+pub returns-in-Err : goal.returns-in-Err
+returns-in-Err c =
+    scrub_refused _ _ _ _ c.args.stripe.now _ c.scrub.ensures _ c.in-Err.is _ c.packed.ensures

@@ -5,8 +5,8 @@ use Rattle.fiddlefern.proofs.packing.packed_answer.Goals as goal
 
 pub packed-requires : goal.packed-requires
 packed-requires c =
-    c.requires.pair _ c.in-Refused.is
+    c.requires.pair _ c.in-Err.is
 
-pub returns-in-Refused : goal.returns-in-Refused
-returns-in-Refused c =
-    c.packed.ensures ∙ sym (ap (answer_packed 0) c.in-Refused.is)
+pub returns-in-Err : goal.returns-in-Err
+returns-in-Err c =
+    c.packed.ensures ∙ sym (ap (answer_packed 0) c.in-Err.is)
