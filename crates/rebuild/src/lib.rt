@@ -9,8 +9,8 @@ mod testing;
 ghost use Rattle.rebuild.specs.Rebuild.{Rebuilds};
 
 pub use mending::mend;
-use shape::lost::{above, lost_count};
 use shape::Refusal;
+use shape::lost::{above, lost_count};
 
 // The strips of the mask are lost: the stripe becomes the sound one that agrees with the rest.
 pub fn rebuild(

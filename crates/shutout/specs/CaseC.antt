@@ -1,7 +1,7 @@
 -- Case C of 01 with U(4) changed from 44 to 45: no sound stripe agrees with the survivors, and rebuild's contract admits one outcome, 10 with the
 -- strips 0 and 1 zero. Assumes nothing.
 -- damaged == n=5, r=2, s=2, e=1: case B with FF in strips 0 and 1, and 45 for U(4)    cleared == the same with zero there
-use Rattle.std.specs.Prelude.{◌≡◌, refl, false, List, [], ◌∷◌, ◌++◌, ℕ, ◌<◌, length}
+use Rattle.std.specs.Prelude.{◌≡◌, refl, false, List, [], ◌∷◌, ◌++◌, ℕ, ◌<◌, length, Err}
 use Rattle.std.proofs.Common.{sym, ap, ◌∙◌, arith, lit≤}
 use Rattle.code.specs.Below.{count}
 use Rattle.code.specs.Xor.{◌⊕◌, ⊕_assoc, ⊕_comm, ⊕_self, ⊕_zero}
@@ -20,6 +20,7 @@ use Rattle.rebuild.proofs.RebuildNumberLaws.{number_accepted}
 use Rattle.rebuild.proofs.RebuildMet.{rebuilds_none}
 use Rattle.rebuild.proofs.RebuildDetermined.{rebuild_determined}
 use Rattle.shutout.specs.Computed.{where?, kept?, zero?}
+use Rattle.shape.specs.Call.{Answer}
 
 -- the survivors with the bytes a in strips 0 and 1
 unfoldable pub strips : List ℕ → List ℕ

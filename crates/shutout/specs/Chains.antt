@@ -2,7 +2,7 @@
 -- or U(4). Its contract admits one outcome: answer 0, and that stripe. Assumes nothing.
 -- chains a b == the survivors, with the bytes a in strip 0 and b in strip 4; the data byte of row i and strip j is 7 (8 i + j) + 1
 -- whole == the sound stripe of them    lost == FF in every byte of the lost strips
-use Rattle.std.specs.Prelude.{◌≡◌, refl, List, [], ◌∷◌, ◌++◌, ℕ, length}
+use Rattle.std.specs.Prelude.{◌≡◌, refl, List, [], ◌∷◌, ◌++◌, ℕ, length, Ok}
 use Rattle.code.specs.Below.{count}
 use Rattle.code.specs.Xor.{◌⊕◌}
 use Rattle.code.specs.Sum.{sum_to}
@@ -17,6 +17,7 @@ use Rattle.rebuild.proofs.RebuildNumberLaws.{number_accepted}
 use Rattle.rebuild.proofs.RebuildMet.{rebuilds_done}
 use Rattle.rebuild.proofs.RebuildDetermined.{rebuild_determined}
 use Rattle.shutout.specs.Computed.{where?, kept?}
+use Rattle.shape.specs.Call.{Answer}
 
 unfoldable pub chains : List ℕ → List ℕ → List ℕ
 chains a b =

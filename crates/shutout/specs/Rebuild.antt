@@ -2,7 +2,7 @@
 -- Assumes nothing.
 -- whole, lost, chains == three chains at n=8, r=3, s=5 (Chains)    damaged, cleared, strips == case C with U(4) changed (CaseC)
 -- case_b == case B of 01 (CaseB)
-use Rattle.std.specs.Prelude.{◌≡◌, refl, List, [], ◌∷◌, ℕ, get_or, take, replicate}
+use Rattle.std.specs.Prelude.{◌≡◌, refl, List, [], ◌∷◌, ℕ, get_or, take, replicate, Err, Ok}
 use Rattle.std.proofs.Common.{sym, ap, arith}
 use Rattle.code.specs.Below.{count}
 use Rattle.code.specs.Bound.{q, pr, searched}

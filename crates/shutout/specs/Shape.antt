@@ -1,6 +1,6 @@
 -- Programs that the contracts of judge and of the walker shut out: each contract, applied to what that program would answer on a named shape,
 -- is absurd. Assumes nothing.
-use Rattle.std.specs.Prelude.{ℕ, zero, suc, ◌<◌, ◌≡◌, refl, ◌≢◌, ◌⊎◌, Bool}
+use Rattle.std.specs.Prelude.{ℕ, zero, suc, ◌<◌, ◌≡◌, refl, ◌≢◌, ◌⊎◌, Bool, Err, Ok}
 use Rattle.std.proofs.Common.{sym, ap, ◌∙◌, inl, inr, arith}
 use Rattle.code.specs.Bound.{q, pr, searched}
 use Rattle.code.specs.Layout.{pair}

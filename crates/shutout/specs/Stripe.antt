@@ -1,7 +1,7 @@
 -- Programs that the contracts of encode, write, read and scrub shut out, and that no edit of one line makes: each contract, applied to what that
 -- program would leave and answer on a named stripe, is absurd. Assumes nothing.
 -- blank == the data of case A of 01 with every H and U zero    case_b == case B (CaseB)
-use Rattle.std.specs.Prelude.{◌≡◌, refl, List, [], ◌∷◌, ℕ, length, get_or, set, take, drop}
+use Rattle.std.specs.Prelude.{◌≡◌, refl, List, [], ◌∷◌, ℕ, length, get_or, set, take, drop, Err, Ok}
 use Rattle.std.proofs.Common.{ap, arith}
 use Rattle.code.specs.Xor.{◌⊕◌}
 use Rattle.code.specs.Sum.{sum_to, table}
@@ -139,17 +139,17 @@ read_strip_n x = other (ap length x)
 -- ---- scrub, on case B
 
 -- a scrub that finds nothing wrong, with FF at byte 6
-pub scrub_blind : (f : Finding) → Scrubs 5 2 2 1 (set case_b 6 0xFF) (scrubbed.Counted 0 0 f) → ⊥
+pub scrub_blind : (f : Finding) → Scrubs 5 2 2 1 (set case_b 6 0xFF) (Ok (record { rows = 0; diagonals = 0; finding = f })) → ⊥
 unfolding case_b some count sum_to ◌⊕◌
-scrub_blind f x = other (x.rows 0 0 f refl)
+scrub_blind f x = other (x.finds _ refl).rows_are
   where
     other : ◌≡◌ {A = ℕ} 0 1 → ⊥
     other e = omega arith
 
 -- a scrub that invents counts on a sound stripe
-pub scrub_invents : (f : Finding) → Scrubs 5 2 2 1 case_b (scrubbed.Counted 1 1 f) → ⊥
+pub scrub_invents : (f : Finding) → Scrubs 5 2 2 1 case_b (Ok (record { rows = 1; diagonals = 1; finding = f })) → ⊥
 unfolding case_b some count sum_to along diagonal ◌⊕◌
-scrub_invents f x = other (x.diagonals 1 1 f refl)
+scrub_invents f x = other (x.finds _ refl).diagonals_are
   where
     other : ◌≡◌ {A = ℕ} 1 0 → ⊥
     other e = omega arith

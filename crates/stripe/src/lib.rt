@@ -105,6 +105,8 @@ pub fn read(
 pub fn scrub(n: usize, r: usize, s: usize, e: usize, stripe: &[u8]) -> Result<Counts, Refusal>
     ensures { Scrubs n r s e stripe.now result }
 {
-    let shape = opened(n, r, s, e, stripe.len())?;
-    Ok(finding::scrub_shape(shape, stripe))
+    let len = stripe.len();
+    let shape = opened(n, r, s, e, len)?;
+    let counts = finding::scrub_shape(shape, stripe);
+    Ok(counts)
 }

@@ -7,10 +7,10 @@ pub returns-in_err-shape : goal.returns-in_err-shape
 returns-in_err-shape c =
     rw (exit_is _ c.from_residual.ensures.1) (scrub_refused _ _ _ _ c.args.stripe.now _ c.opened.ensures _ c.in_err-shape.was)
 
-pub scrub_shape-requires : goal.scrub_shape-requires
-scrub_shape-requires c =
+pub scrub_shape-counts-requires : goal.scrub_shape-counts-requires
+scrub_shape-counts-requires c =
     shape_size _ _ _ _ c.args.stripe.now _ c.opened.ensures _ c.in_ok-shape.was
 
 pub returns : goal.returns
 returns c =
-    scrub_counted _ _ _ _ c.args.stripe.now _ c.opened.ensures _ c.in_ok-shape.was _ c.scrub_shape.ensures
+    scrub_counted _ _ _ _ c.args.stripe.now _ c.opened.ensures _ c.in_ok-shape.was _ c.scrub_shape-counts.ensures
