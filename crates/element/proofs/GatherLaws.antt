@@ -1,16 +1,19 @@
 -- The loops of gather and is_zero: a sum after its first j sources, a test after its first t bytes, a buffer after its first k. Assumes nothing.
-use Rattle.std.specs.Prelude.{◌≡◌, refl, Bool, true, false, List, ℕ, ◌+◌, ◌-◌, ◌≤◌, ◌<◌, length, get_or, replicate, eqb}
-use Rattle.std.proofs.Common.{sym, ap, ap₂, ◌∙◌, subst, inl, inr, ⊎_elim, not-suc-le-zero, le_antisymm, arith, below_more, eq-eqb, ne_eqb}
-use Rattle.std.proofs.Math.Decide.{dec_lt, ℕ_discrete}
-use Rattle.std.specs.Int.Bits.{bit_or, or_add_and, or_zero_l}
+use Rattle.std.specs.Prelude.{◌≡◌, refl, Bool, true, false, List, [], ◌∷◌, ℕ, zero, suc, ◌+◌, ◌-◌, ◌≤◌, ◌<◌, length, get_or, replicate, eqb, take}
+use Rattle.std.proofs.Common.{sym, ap, ap₂, ◌∙◌, inl, inr, ⊎_elim, not-suc-le-zero, le_antisymm, arith, eq-eqb, eqb-true, get_or-take, length-take-le}
+use Rattle.std.proofs.Math.Decide.{dec_lt}
+use Rattle.std.specs.Int.Bits.{bit_or, or_add_and}
 use Rattle.std.proofs.lemmas.Nat.{and_le_l, and_le_r}
 use Rattle.std.proofs.lemmas.List.{length-replicate, get_or-replicate}
-use Rattle.code.specs.Xor.{◌⊕◌}
-use Rattle.code.specs.SumLaws.{sum_to_none, sum_to_more, sum_to_four, sum_index, sum_ext, clash}
+use Rattle.code.specs.Xor.{◌⊕◌, ⊕_assoc, ⊕_zero}
+use Rattle.code.specs.Sum.{sum_to}
+use Rattle.code.specs.SumLaws.{sum_to_none, sum_to_more, sum_to_ext, sum_index, sum_ext, clash}
+use Rattle.std.specs.List.{fold}
 use Rattle.element.specs.Filled.{Begins, Filled}
-use Rattle.element.specs.FilledLaws.{filled_begins, filled_then}
+use Rattle.element.specs.FilledLaws.{filled_begins, filled_same, filled_then}
 use Rattle.element.specs.Sofar.{partial, Sofar}
-use Rattle.element.specs.Gather.{from, four, total, Fits, Apart, Gathered, Zero, Tells, Any}
+use Rattle.element.proofs.Parts.{Part}
+use Rattle.element.specs.Gather.{from, total, Fits, Apart, Gathered, Zero, AllZero, Tells}
 
 -- ---- a block of the sum, source after source
 
@@ -22,34 +25,44 @@ sofar_none s os k m h =
       each = λ t lt. get_or-replicate {A = ℕ} 128 t 0 0 (omega arith) ∙ sym (sum_to_none (λ i. from s (k + t) (get_or os i 0)));
     }
 
--- byte t of a source that is read from byte k on
-shift : (s : List ℕ) (o k t : ℕ) → from s t (o + k) ≡ from s (k + t) o
-shift s o k t = let e : (o + k) + t ≡ o + (k + t) = omega arith in ap (λ (x : ℕ). get_or s x 0) e
+-- a sum of n more
+sum_to_then : (j n : ℕ) (f : ℕ → ℕ) → sum_to (j + n) f ≡ sum_to j f ⊕ sum_to n (λ i. f (j + i))
+unfolding sum_to
+sum_to_then j zero f =
+    let e : j + 0 ≡ j = omega arith in
+    ap (λ (n : ℕ). sum_to n f) e ∙ sym (⊕_zero (sum_to j f)) ∙ ap (λ (x : ℕ). sum_to j f ⊕ x) (sym (sum_to_none (λ i. f (j + i))))
+sum_to_then j (suc n) f =
+    let e : j + suc n ≡ (j + n) + 1 = omega arith in
+    ap (λ (x : ℕ). sum_to x f) e ∙ sum_to_more (j + n) f ∙ ap (λ (x : ℕ). x ⊕ f (j + n)) (sum_to_then j n f)
+    ∙ ⊕_assoc (sum_to j f) (sum_to n (λ i. f (j + i))) (f (j + n))
 
-pub sofar_one : (s os : List ℕ) (k m j : ℕ) (a b : List ℕ) → j < length os → Sofar s os k m j a
-    → Filled a 0 m (λ t. get_or a t 0 ⊕ from s t (get_or os j 0 + k)) b → Sofar s os k m (j + 1) b
-sofar_one s os k m j a b h p q =
+-- the sources at qs, which os has from j on, added to what stands
+pub sofar_more : (s os qs : List ℕ) (k m j l : ℕ) (a b : List ℕ) → l ≡ j + length qs → Part os j qs → Sofar s os k m j a
+    → Filled a 0 m (λ t. get_or a t 0 ⊕ total s qs (k + t)) b → Sofar s os k m l b
+sofar_more s os qs k m j l a b e r p q =
     record {
       long = q.long ∙ p.long;
-      within = omega arith;
-      each = λ t lt. (filled_begins a m (λ x. get_or a x 0 ⊕ from s x (get_or os j 0 + k)) b q).each t lt
-          ∙ ap₂ ◌⊕◌ (p.each t lt) (shift s (get_or os j 0) k t)
-          ∙ sym (sum_to_more j (λ i. from s (k + t) (get_or os i 0)));
+      within = omega (arith, r.within);
+      each = λ t lt. (filled_begins a m (λ x. get_or a x 0 ⊕ total s qs (k + x)) b q).each t lt
+          ∙ ap₂ ◌⊕◌ (p.each t lt) (sum_index (from s (k + t)) qs
+          ∙ sum_to_ext (length qs) (λ i. from s (k + t) (get_or qs i 0)) (λ i. from s (k + t) (get_or os (j + i) 0)) (λ i lt. ap (from s (k + t)) (r.each i lt)))
+          ∙ sym (sum_to_then j (length qs) (λ i. from s (k + t) (get_or os i 0)))
+          ∙ ap (λ (x : ℕ). partial s os x (k + t)) (sym e);
     }
 
-pub sofar_four : (s os : List ℕ) (k m j : ℕ) (a b : List ℕ) → 4 + j ≤ length os → Sofar s os k m j a
-    → Filled a 0 m (λ t. four s t (get_or os j 0 + k) (get_or os (j + 1) 0 + k) (get_or os (j + 2) 0 + k) (get_or os (j + 3) 0 + k) (get_or a t 0)) b
-    → Sofar s os k m (j + 4) b
-sofar_four s os k m j a b h p q =
-    record {
-      long = q.long ∙ p.long;
-      within = omega arith;
-      each = λ t lt. (filled_begins a m _ b q).each t lt
-          ∙ ap₂ ◌⊕◌
-          (ap₂ ◌⊕◌ (ap₂ ◌⊕◌ (ap₂ ◌⊕◌ (p.each t lt) (shift s (get_or os j 0) k t)) (shift s (get_or os (j + 1) 0) k t)) (shift s (get_or os (j + 2) 0) k t))
-          (shift s (get_or os (j + 3) 0) k t)
-          ∙ sym (sum_to_four j (λ i. from s (k + t) (get_or os i 0)));
-    }
+-- one source more on byte t of acc
+pub partial_more : (s os : List ℕ) (k t i a x : ℕ) → x ≡ a ⊕ partial s os i (k + t)
+    → x ⊕ get_or s ((get_or os i 0 + k) + t) 0 ≡ a ⊕ partial s os (i + 1) (k + t)
+partial_more s os k t i a x e =
+    let f : ℕ → ℕ = λ i. from s (k + t) (get_or os i 0) in
+    let y : (get_or os i 0 + k) + t ≡ get_or os i 0 + (k + t) = omega arith in
+    ap₂ ◌⊕◌ e (ap (λ (n : ℕ). get_or s n 0) y) ∙ ⊕_assoc a (sum_to i f) (f i) ∙ ap (λ (n : ℕ). a ⊕ n) (sym (sum_to_more i f))
+
+pub partial_none : (s os : List ℕ) (k a : ℕ) → a ≡ a ⊕ partial s os 0 k
+partial_none s os k a = sym (⊕_zero a) ∙ ap (λ (n : ℕ). a ⊕ n) (sym (sum_to_none (λ i. from s k (get_or os i 0))))
+
+pub partial_all : (s os : List ℕ) (i k : ℕ) → i ≡ length os → partial s os i k ≡ total s os k
+partial_all s os i k e = ap (λ (n : ℕ). partial s os n k) e ∙ sym (sum_index (from s k) os)
 
 pub sofar_all : (s os : List ℕ) (k m j : ℕ) (a : List ℕ) → length os ≤ j → Sofar s os k m j a → Begins m (λ t. total s os (k + t)) a
 sofar_all s os k m j a h p =
@@ -73,11 +86,21 @@ total_kept s os e d k t i h l p q =
     q.outside (get_or os j 0 + i)
     (⊎_elim (λ x. inl (omega arith)) (λ x. inr (omega arith)) (p.each j lt)))
 
-pub gathered_then : (s os : List ℕ) (e d k m : ℕ) (t a u : List ℕ) → k + m ≤ e → Apart e d os → Gathered s k d os t
-    → Begins m (λ i. total t os (k + i)) a → Filled t (d + k) m (λ i. get_or a i 0) u → Gathered s (k + m) d os u
-gathered_then s os e d k m t a u h p g q f =
-    filled_then s d k m (total s os) (λ i. get_or a i 0) t u
-    (λ i lt. q.each i lt ∙ total_kept s os e d k t (k + i) (omega arith) (omega arith) p g) g f
+-- the run a, put after the k bytes that stand
+pub gathered_then : (s os : List ℕ) (e d k l : ℕ) (t a u : List ℕ) → l ≡ k + length a → l ≤ e → Apart e d os → Gathered s k d os t
+    → Begins (length a) (λ i. total t os (k + i)) a → Filled t (d + k) (length a) (λ i. get_or a i 0) u → Gathered s l d os u
+gathered_then s os e d k l t a u c h p g q f =
+    filled_same s d (k + length a) l (total s os) (total s os) u (sym c) (λ i lt. refl)
+    (filled_then s d k (length a) (total s os) (λ i. get_or a i 0) t u
+    (λ i lt. q.each i lt ∙ total_kept s os e d k t (k + i) (omega arith) (omega arith) p g) g f)
+
+-- ---- a block, or its first m bytes, as a run
+
+pub run_whole : (f : ℕ → ℕ) (m : ℕ) (a : List ℕ) → length a ≡ m → Begins m f a → Begins (length a) f a
+run_whole f m a e p = record { each = λ k lt. p.each k (omega arith) }
+
+pub run_part : (f : ℕ → ℕ) (m : ℕ) (a : List ℕ) → m ≤ length a → Begins m f a → Begins (length (take m a)) f (take m a)
+run_part f m a h p = record { each = λ k lt. let x : k < m = omega (arith, length-take-le m a h) in get_or-take m a k 0 x ∙ p.each k x }
 
 -- ---- zero, one after the other and run after run
 
@@ -88,11 +111,12 @@ zero_none f = record { each = λ k lt. absurd (not-suc-le-zero lt) }
 pub zero_part : (e l : ℕ) (f : ℕ → ℕ) → l ≤ e → Zero e f → Zero l f
 zero_part e l f h p = record { each = λ k lt. p.each k (omega arith) }
 
--- a run of k, and after it one of m, which a begins with
-pub zero_then : (f : ℕ → ℕ) (k m : ℕ) (a : List ℕ) → Zero k f → Begins m (λ t. f (k + t)) a → Zero m (λ t. get_or a t 0) → Zero (k + m) f
-zero_then f k m a p q z = record { each = λ i lt. go i lt (dec_lt i k) }
+-- a run of k, and after it the run a
+pub zero_then : (f : ℕ → ℕ) (k l : ℕ) (a : List ℕ) → l ≡ k + length a → Zero k f → Begins (length a) (λ t. f (k + t)) a
+    → Zero (length a) (λ t. get_or a t 0) → Zero l f
+zero_then f k l a h p q z = record { each = λ i lt. go i (omega arith) (dec_lt i k) }
   where
-    go : (i : ℕ) → i < k + m → Dec (i < k) → f i ≡ 0
+    go : (i : ℕ) → i < k + length a → Dec (i < k) → f i ≡ 0
     go i lt (yes x) = p.each i x
     go i lt (no x) = let y : i ≡ k + (i - k) = omega arith in ap f y ∙ sym (q.each (i - k) (omega arith)) ∙ z.each (i - k) (omega arith)
 
@@ -104,41 +128,36 @@ or_nil_l x y e = omega (arith, or_add_and x y, and_le_r x y)
 or_nil_r : (x y : ℕ) → bit_or x y ≡ 0 → y ≡ 0
 or_nil_r x y e = omega (arith, or_add_and x y, and_le_l x y)
 
-pub any_none : (f : ℕ → ℕ) → Any 0 f 0
-any_none f = record { none = λ e. zero_none f; nil = λ z. refl }
+zero_cons : (x : ℕ) (xs : List ℕ) → x ≡ 0 → Zero (length xs) (λ k. get_or xs k 0) → Zero (length (x ∷ xs)) (λ k. get_or (x ∷ xs) k 0)
+zero_cons x xs e z = record { each = go }
+  where
+    go : (k : ℕ) → k < suc (length xs) → get_or (x ∷ xs) k 0 ≡ 0
+    go zero lt = e
+    go (suc k) lt = z.each k (omega arith)
 
-pub any_more : (m : ℕ) (f : ℕ → ℕ) (r : ℕ) → Any m f r → Any (m + 1) f (bit_or r (f m))
-any_more m f r p =
-    record {
-      none = λ e. record { each = below_more (λ (t : ℕ). f t ≡ 0) m (p.none (or_nil_l r (f m) e)).each (or_nil_r r (f m) e) };
-      nil = λ z. ap₂ bit_or (p.nil (zero_part (m + 1) m f (omega arith) z)) (z.each m (omega arith)) ∙ or_zero_l 0;
-    }
+-- an or that is zero had nothing to begin with
+or_zero : (xs : List ℕ) (r : ℕ) → fold bit_or r xs ≡ 0 → (r ≡ 0) × Zero (length xs) (λ k. get_or xs k 0)
+or_zero [] r e = (e, zero_none _)
+or_zero (x ∷ xs) r e = let p = or_zero xs (bit_or r x) e in (or_nil_l r x p.0, zero_cons x xs (or_nil_r r x p.0) p.1)
 
-pub any_all : (m l : ℕ) (f : ℕ → ℕ) (r : ℕ) → m ≤ l → l ≤ m → Any m f r → Any l f r
-any_all m l f r h g p = record { none = λ e. zero_part m l f g (p.none e); nil = λ z. p.nil (zero_part l m f h z) }
+or_of_zero : (xs : List ℕ) → Zero (length xs) (λ k. get_or xs k 0) → fold bit_or 0 xs ≡ 0
+or_of_zero [] z = refl
+or_of_zero (x ∷ xs) z =
+    ap (λ (r : ℕ). fold bit_or (bit_or 0 r) xs) (z.each 0 (omega arith)) ∙ or_of_zero xs (record { each = λ k lt. z.each (suc k) (omega arith) })
+
+pub or_tells : (xs : List ℕ) → AllZero (length xs) (λ k. get_or xs k 0) (eqb (fold bit_or 0 xs) 0)
+or_tells xs = record { yes = λ e. (or_zero xs 0 (eqb-true _ _ e)).1; no = λ z. eq-eqb _ 0 (or_of_zero xs z) }
 
 -- ---- what is_zero answers
 
-pub tells_yes : (s os : List ℕ) (e k : ℕ) → e ≤ k → Zero k (total s os) → Tells s e os true
-tells_yes s os e k h z = record { yes = λ x. zero_part k e (total s os) h z; no = λ y. refl }
-
--- a block from byte k on that is not zero
-pub tells_no : (s os : List ℕ) (e k m r : ℕ) (a : List ℕ) → k + m ≤ e → Begins m (λ t. total s os (k + t)) a → Any m (λ t. get_or a t 0) r → (r ≡ 0 → ⊥)
-    → Tells s e os false
-tells_no s os e k m r a h q n ne =
+-- the last run decides
+pub tells_last : (s os : List ℕ) (e k : ℕ) (a : List ℕ) (r : Bool) → e ≡ k + length a → Zero k (total s os)
+    → Begins (length a) (λ t. total s os (k + t)) a → AllZero (length a) (λ t. get_or a t 0) r → Tells s e os r
+tells_last s os e k a r h p q n =
     record {
-      yes = clash;
-      no = λ z. absurd (ne (n.nil (record { each = λ t lt. q.each t lt ∙ z.each (k + t) (omega arith) })));
+      yes = λ x. zero_then (total s os) k e a h p q (n.yes x);
+      no = λ z. n.no (record { each = λ t lt. q.each t lt ∙ z.each (k + t) (omega arith) });
     }
-
--- the last block decides
-pub tells_last : (s os : List ℕ) (e k m r : ℕ) (a : List ℕ) → k + m ≡ e → Zero k (total s os) → Begins m (λ t. total s os (k + t)) a
-    → Any m (λ t. get_or a t 0) r → Tells s e os (eqb r 0)
-tells_last s os e k m r a h p q n = go (ℕ_discrete r 0)
-  where
-    go : Dec (r ≡ 0) → Tells s e os (eqb r 0)
-    go (yes x) = subst (Tells s e os) (sym (eq-eqb r 0 x)) (tells_yes s os e (k + m) (omega arith) (zero_then (total s os) k m a p q (n.none x)))
-    go (no x) = subst (Tells s e os) (sym (ne_eqb r 0 x)) (tells_no s os e k m r a (omega arith) q n x)
 
 -- the answer is not open
 pub tells_determined : (s os : List ℕ) (e : ℕ) (q r : Bool) → Tells s e os q → Tells s e os r → q ≡ r

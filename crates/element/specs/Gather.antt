@@ -1,17 +1,12 @@
 -- Sums of ranges of bytes of one buffer, by the offsets where the ranges start: what gather and is_zero ask and promise. Assumes nothing.
 -- s == the buffer    os == the offsets    e == the bytes of a range    k == a byte of a range
 use Rattle.std.specs.Prelude.{◌≡◌, Bool, true, ◌⊎◌, List, ℕ, ◌+◌, ◌≤◌, ◌<◌, length, get_or}
-use Rattle.code.specs.Xor.{◌⊕◌}
 use Rattle.code.specs.Sum.{sum}
 use Rattle.element.specs.Filled.{Filled}
 
 -- byte k of the range that starts at o
 abbrev pub from : List ℕ → ℕ → ℕ → ℕ
 from s k o = get_or s (o + k) 0
-
--- x with byte k of the ranges at a, b, c and d added
-abbrev pub four : List ℕ → ℕ → ℕ → ℕ → ℕ → ℕ → ℕ → ℕ
-four s k a b c d x = (((x ⊕ from s k a) ⊕ from s k b) ⊕ from s k c) ⊕ from s k d
 
 -- byte k of the sum of the ranges at os
 abbrev pub total : List ℕ → List ℕ → ℕ → ℕ
@@ -33,12 +28,11 @@ Gathered s e d os t = Filled s d e (total s os) t
 pub record Zero (e : ℕ) (f : ℕ → ℕ) : Type 0 where
   pub each : (k : ℕ) → k < e → f k ≡ 0
 
--- the number r is zero exactly when f 0, .., f (e - 1) are
-pub record Any (e : ℕ) (f : ℕ → ℕ) (r : ℕ) : Type 0 where
-  pub none : r ≡ 0 → Zero e f
-  pub nil : Zero e f → r ≡ 0
+-- r is true exactly when f 0, .., f (e - 1) are zero
+pub record AllZero (e : ℕ) (f : ℕ → ℕ) (r : Bool) : Type 0 where
+  pub yes : r ≡ true → Zero e f
+  pub no : Zero e f → r ≡ true
 
 -- r is true exactly when the sum of the ranges at os is zero in each of its e bytes
-pub record Tells (s : List ℕ) (e : ℕ) (os : List ℕ) (r : Bool) : Type 0 where
-  pub yes : r ≡ true → Zero e (total s os)
-  pub no : Zero e (total s os) → r ≡ true
+abbrev pub Tells : List ℕ → ℕ → List ℕ → Bool → Type 0
+Tells s e os r = AllZero e (total s os) r

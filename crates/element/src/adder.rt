@@ -4,15 +4,15 @@ ghost use Rattle.code.specs.Xor.{◌⊕◌};
 ghost use Rattle.element.specs.Filled.{Filled};
 ghost use Rattle.element.specs.Added.{added};
 
+use crate::kernel::put;
+
 // Each byte of run added to the byte of part at the same index.
 pub fn add(part: &mut [u8], run: &[u8])
     requires { length run.now ≡ length part.old }
     ensures { part.new ≡ added part.old run.now }
 {
-    let mut t = 0;
-    while t < part.len() {
-        part[t] = part[t] ^ run[t];
-        t += 1;
+    for (t, x) in part.iter_mut().enumerate() {
+        *x ^= run[t];
     }
 }
 
@@ -21,9 +21,7 @@ pub fn add_at(s: &mut [u8], d: usize, run: &[u8])
     requires { d + length run.now ≤ length s.old }
     ensures { Filled s.old d (length run.now) (λ t. get_or s.old (d + t) 0 ⊕ get_or run.now t 0) s.new }
 {
-    let m = run.len();
-    let b = d + m;
-    add(&mut s[d..b], run);
+    add(&mut s[d..d + run.len()], run);
 }
 
 // A block that begins with the m bytes from d on of s, each with the byte of v from c on added, and is zero from there on.
@@ -31,9 +29,8 @@ pub fn delta(s: &[u8], d: usize, v: &[u8], c: usize, m: usize) -> [u8; 128]
     requires { (d + m ≤ length s.now) × (c + m ≤ length v.now) × (m ≤ 128) }
     ensures { Filled (replicate 128 0) 0 m (λ t. get_or s.now (d + t) 0 ⊕ get_or v.now (c + t) 0) result }
 {
-    let mut a = [0u8; 128];
-    for t in 0..m {
-        a[t] = s[d + t] ^ v[c + t];
-    }
+    let mut a = [0; 128];
+    put(&mut a, 0, &s[d..d + m]);
+    add_at(&mut a, 0, &v[c..c + m]);
     a
 }

@@ -14,17 +14,17 @@ pub fn gather(s: &mut [u8], e: usize, d: usize, offs: &[usize])
     requires { (d + e ≤ length s.old) × Fits s.old e offs.now × Apart e d offs.now }
     ensures { Gathered s.old e d offs.now s.new }
 {
-    let mut k = 0;
-    while 128 <= e - k {
-        let acc = kernel::sum_block(s, offs, k);
-        kernel::put(s, d + k, &acc, 128);
-        k += 128;
+    for block in 0..e / 128 {
+        let k = 128 * block;
+        let acc = kernel::sum(s, offs, k, 128);
+        kernel::put(s, d + k, &acc);
     }
-    let m = e - k;
+    let m = e % 128;
     let rest = 0 < m;
     if rest {
-        let last = kernel::sum_tail(s, offs, k, m);
-        kernel::put(s, d + k, &last, m);
+        let k = e - m;
+        let last = kernel::sum(s, offs, k, m);
+        kernel::put(s, d + k, &last[..m]);
     }
 }
 
@@ -33,18 +33,16 @@ pub fn is_zero(s: &[u8], e: usize, offs: &[usize]) -> bool
     requires { Fits s.now e offs.now }
     ensures { Tells s.now e offs.now result }
 {
-    let mut k = 0;
-    while 128 <= e - k {
-        let acc = kernel::sum_block(s, offs, k);
-        if kernel::any(&acc, 128) != 0 {
+    for block in 0..e / 128 {
+        let acc = kernel::sum(s, offs, 128 * block, 128);
+        if !kernel::all_zero(&acc) {
             return false;
         }
-        k += 128;
     }
-    let m = e - k;
+    let m = e % 128;
     if m == 0 {
         return true;
     }
-    let last = kernel::sum_tail(s, offs, k, m);
-    kernel::any(&last, m) == 0
+    let last = kernel::sum(s, offs, e - m, m);
+    kernel::all_zero(&last[..m])
 }

@@ -1,0 +1,68 @@
+-- A list of sources taken part by part: the chunks that as_chunks gives, and one source of what it leaves. Assumes nothing.
+use Rattle.std.specs.Prelude.{◌≡◌, List, [], ◌∷◌, ℕ, zero, suc, ◌+◌, ◌*◌, ◌/◌, ◌≤◌, ◌<◌, length, get_or, drop}
+use Rattle.std.proofs.Common.{sym, ap, subst, ◌∙◌, refl, not-suc-le-zero, arith, length-drop, get_or-take, get_or-drop, length-take-le}
+use Rattle.std.specs.Simd.{first_chunks}
+use Rattle.element.specs.Gather.{Fits}
+
+-- qs is a part of os, from index j on
+pub record Part (os : List ℕ) (j : ℕ) (qs : List ℕ) : Type 0 where
+  pub within : j + length qs ≤ length os
+  pub each : (i : ℕ) → i < length qs → get_or qs i 0 ≡ get_or os (j + i) 0
+
+-- what fits at every source fits at those of a part
+pub fits_of : (s os qs : List ℕ) (e j : ℕ) → Part os j qs → Fits s e os → Fits s e qs
+fits_of s os qs e j p h = record { each = λ i lt. omega (arith, p.each i lt, p.within, h.each (j + i) (omega (arith, p.within))) }
+
+-- ---- chunks of n
+
+length_chunks : (n c : ℕ) (os : List ℕ) → length (first_chunks n c os) ≡ c
+length_chunks n zero os = refl
+length_chunks n (suc c) os = ap suc (length_chunks n c (drop n os))
+
+length_chunk : (n c j : ℕ) (os : List ℕ) → n * c ≤ length os → j < c → length (get_or (first_chunks n c os) j []) ≡ n
+length_chunk n zero j os h lt = absurd (not-suc-le-zero lt)
+length_chunk n (suc c) zero os h lt = length-take-le n os (omega arith)
+length_chunk n (suc c) (suc j) os h lt = length_chunk n c j (drop n os) (omega (arith, length-drop n os)) (omega arith)
+
+chunk_each : (n c j i : ℕ) (os : List ℕ) → j < c → i < n → get_or (get_or (first_chunks n c os) j []) i 0 ≡ get_or os (n * j + i) 0
+chunk_each n zero j i os h lt = absurd (not-suc-le-zero h)
+chunk_each n (suc c) zero i os h lt = let e : i ≡ n * 0 + i = omega arith in get_or-take n os i 0 lt ∙ ap (λ (x : ℕ). get_or os x 0) e
+chunk_each n (suc c) (suc j) i os h lt =
+    let e : n + (n * j + i) ≡ n * suc j + i = omega arith in
+    chunk_each n c j i (drop n os) (omega arith) lt ∙ get_or-drop n os (n * j + i) 0 ∙ ap (λ (x : ℕ). get_or os x 0) e
+
+mul_room : (n j c : ℕ) → j < c → n * j + n ≤ n * c
+mul_room n j zero lt = absurd (not-suc-le-zero lt)
+mul_room n zero (suc c) lt = omega arith
+mul_room n (suc j) (suc c) lt = omega (arith, mul_room n j c (omega arith))
+
+-- chunk j of those that as_chunks gives
+pub chunk_of : (n j : ℕ) (os : List ℕ) (fs : List (List ℕ)) → 0 < n → fs ≡ first_chunks n (length os / n) os → j < length fs
+    → (length (get_or fs j []) ≡ n) × Part os (n * j) (get_or fs j [])
+chunk_of n j os fs p e lt = subst (λ (x : List (List ℕ)). (length (get_or x j []) ≡ n) × Part os (n * j) (get_or x j [])) (sym e) (long, part)
+  where
+    c : ℕ
+    c = length os / n
+
+    h : n * c ≤ length os
+    h = omega arith
+
+    below : j < c
+    below = omega (arith, ap length e, length_chunks n c os)
+
+    long : length (get_or (first_chunks n c os) j []) ≡ n
+    long = length_chunk n c j os h below
+
+    part : Part os (n * j) (get_or (first_chunks n c os) j [])
+    part = record { within = omega (arith, long, mul_room n j c below, h); each = λ i x. chunk_each n c j i os below (omega (arith, long)) }
+
+-- ---- what is left, one by one
+
+pub part_one : (os rest : List ℕ) (a j : ℕ) → rest ≡ drop a os → j < length rest → Part os (a + j) (get_or rest j 0 ∷ [])
+part_one os rest a j e lt = record { within = omega (arith, ap length e, length-drop a os); each = each }
+  where
+    each : (i : ℕ) → i < 1 → get_or (get_or rest j 0 ∷ []) i 0 ≡ get_or os ((a + j) + i) 0
+    each zero l =
+        let z : a + j ≡ (a + j) + 0 = omega arith in
+        ap (λ (x : List ℕ). get_or x j 0) e ∙ get_or-drop a os j 0 ∙ ap (λ (x : ℕ). get_or os x 0) z
+    each (suc i) l = absurd (omega arith)
