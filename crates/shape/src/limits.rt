@@ -25,10 +25,7 @@ pub enum Limited {
 fn outside(low: usize, high: usize, x: usize) -> bool
     ensures { result ≡ outside low high x }
 {
-    if x < low {
-        return true;
-    }
-    high < x
+    !(low..=high).contains(&x)
 }
 
 // The shape of four numbers, or the first of the refusals 1 to 4 that holds.
