@@ -32,7 +32,8 @@ pub struct Counts {
     pub finding: Finding,
 }
 
-// How many of a run of lines are wrong, and the first that is; where none is, the run's end.
+// How many of a run of lines are wrong, and the first that is; where none is, the run's end. No enum of none, one and several: `Counts` has
+// how many they are also where they are several.
 #[derive(Clone, Copy)]
 struct Tally {
     count: usize,
@@ -47,43 +48,33 @@ fn wrong_lines(shape: Shape, stripe: &[u8], from: usize, m: usize) -> Tally
 {
     let mut count: usize = 0;
     let mut first = m;
-    let mut left = m;
     let mut offs = [0usize; 33];
-    while 0 < left {
-        let v = left - 1;
+    for v in (0..m).rev() {
         if wrong_line(shape, stripe, from + v, &mut offs) {
             count += 1;
             first = v;
         }
-        left = v;
     }
     Tally { count, first }
 }
 
 // What the tallies of the rows and of the diagonals find.
+#[tactic(auto, unfolding(crate::specs::Found::found_of))]
 fn found(shape: Shape, rows: Tally, diagonals: Tally) -> Finding
     requires row { 0 < rows.count → rows.first < shape.r }
     requires diagonal { 0 < diagonals.count → diagonals.first < shape.n }
     ensures { result ≡ found_of (shift shape.n shape.r shape.s) rows.count rows.first diagonals.count diagonals.first }
 {
-    let a = rows.count;
     let i = rows.first;
-    let b = diagonals.count;
     let d = diagonals.first;
-    match a {
-        0 => match b {
-            0 => Finding::Sound,
-            1 => Finding::U(d),
-            _ => Finding::Several,
-        },
-        1 => match b {
-            0 => Finding::H(i),
-            1 => {
-                let j = shape.meets(i, d);
-                Finding::Element(i, j)
-            }
-            _ => Finding::Several,
-        },
+    match (rows.count, diagonals.count) {
+        (0, 0) => Finding::Sound,
+        (1, 0) => Finding::H(i),
+        (0, 1) => Finding::U(d),
+        (1, 1) => {
+            let j = shape.meets(i, d);
+            Finding::Element(i, j)
+        }
         _ => Finding::Several,
     }
 }

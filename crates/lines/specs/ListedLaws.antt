@@ -1,31 +1,19 @@
 -- Laws of a line as the code lists it: a table is filled with where its elements start, one after the other. Assumes nothing.
--- h == the rows of a strip, r + 1    os == the table before    us == the table now
-use Rattle.std.specs.Prelude.{◌≡◌, List, ℕ, ◌+◌, ◌-◌, ◌*◌, ◌%◌, ◌≤◌, ◌<◌, length, get_or, set}
+-- h == the rows of a strip, r + 1    os == the table before    us == what is listed
+use Rattle.std.specs.Prelude.{◌≡◌, List, ◌++◌, ℕ, ◌+◌, ◌-◌, ◌*◌, ◌%◌, ◌≤◌, ◌<◌, length, get_or, set, take, drop}
 use Rattle.std.proofs.Math.Path.{refl, sym, ap}
-use Rattle.std.proofs.Common.{◌∙◌, subst, add-mul, mul-le-mul, mod-lt, mod-eq_of_lt, zero-mul, le_refl, Fits, arith}
+use Rattle.std.proofs.Common.{◌∙◌, subst, add-mul, mul-le-mul, mod-lt, mod-eq_of_lt, zero-mul, le_refl, arith, length-set, length-append, length-take-le, take-append-drop, get_or-set_same, get_or-set_other}
 use Rattle.std.proofs.Math.Nat.{mod-add-mod, mod_self}
 use Rattle.std.proofs.Math.Decide.{dec_lt}
-use Rattle.std.specs.Int.{w64}
+use Rattle.std.proofs.Math.ListN.{get_or-append}
 use Rattle.code.specs.Circle.{step_cancel}
 use Rattle.code.specs.Place.{place, before}
-use Rattle.code.specs.Layout.{Layout, height, X, U, line}
+use Rattle.code.specs.Layout.{Layout, X, U, diagonal_line}
 use Rattle.code.specs.LayoutLaws.{row_length, row_at, diagonal_length, diagonal_at, diagonal_end, line_row, line_diagonal}
 use Rattle.code.specs.Shift.{meets}
-use Rattle.element.specs.Filled.{Filled}
-use Rattle.element.specs.FilledLaws.{filled_none, filled_more, filled_begins, filled_all}
 use Rattle.lines.specs.Listed.{Listed}
 
 -- ---- numbers
-
--- at most 33 rows of 4096 bytes, and where an element starts is at most 4096 (32 * 33 + 32)
-pub step_fits : (h e : ℕ) → h ≤ 33 → e ≤ 4096 → Fits w64 (h * e)
-step_fits h e lh le = let a : h * e ≤ 135168 = mul-le-mul lh le in omega arith
-
-pub start_small : (h e i j : ℕ) → h ≤ 33 → e ≤ 4096 → i ≤ 32 → j ≤ 32 → place h i j * e ≤ 4456448
-start_small h e i j lh le li lj =
-    let a : j * h ≤ 1056 = mul-le-mul lj lh in
-    let b : j * h + i ≤ 1088 = omega arith in
-    mul-le-mul b le
 
 -- row i of strip j is one of the stripe's places, but for row r of strip n
 pub place_stored : (n r i j : ℕ) → i ≤ r → j ≤ n → i + j < r + n → j * (r + 1) + i < n * (r + 1) + r
@@ -114,87 +102,61 @@ module _ (n r s e i d o : ℕ) (pn : 0 < n) (pe : 0 < e) (l : i + 1 < r) (q : o 
 
 -- ---- a row
 
--- the first j elements of row i are listed, and o is where the next one starts
-pub record RowTo (h e i : ℕ) (os : List ℕ) (j o : ℕ) (us : List ℕ) : Type 0 where
-  pub listing : Filled os 0 j (λ v. place h i v * e) us
-  pub next : o ≡ place h i j * e
+-- as many numbers in the place of the first m
+put_long : (m : ℕ) (os us : List ℕ) → length us ≡ length (take m os) → length (us ++ drop m os) ≡ length os
+put_long m os us q =
+    length-append us (drop m os)
+    ∙ ap (λ (k : ℕ). k + length (drop m os)) q
+    ∙ sym (length-append (take m os) (drop m os))
+    ∙ ap length (take-append-drop m os)
 
-pub row_none : (h e i : ℕ) (os : List ℕ) → RowTo h e i os 0 (i * e) os
-row_none h e i os =
-    let q : i ≡ place h i 0 = omega (arith, zero-mul h) in
-    record { listing = filled_none os 0 (λ v. place h i v * e); next = ap (λ (p : ℕ). p * e) q }
-
-pub next_fits : (h e i : ℕ) (os : List ℕ) (j o : ℕ) (us : List ℕ) → h ≤ 33 → e ≤ 4096 → i ≤ 32 → j ≤ 32 → RowTo h e i os j o us → Fits w64 (o + h * e)
-next_fits h e i os j o us lh le li lj p =
-    let a : h * e ≤ 135168 = mul-le-mul lh le in
-    omega (arith, start_small h e i j lh le li lj, p.next)
-
--- the next strip's element starts a whole strip further on
-pub row_more : (h e i : ℕ) (os : List ℕ) (j o : ℕ) (us : List ℕ) → j < length os → RowTo h e i os j o us → RowTo h e i os (j + 1) (o + h * e) (set us j o)
-row_more h e i os j o us l p =
-    let q : (j + 1) * h ≡ j * h + 1 * h = add-mul j 1 h in
+-- its n + 1 elements are listed, each where it starts
+pub row_listed : (L : Layout) (e i : ℕ) (os us : List ℕ) → i < L.r → L.n ≤ 32 → length os ≡ 33
+    → length us ≡ length (take (L.n + 1) os) → ((v : ℕ) → v < length us → get_or us v 0 ≡ X L i v * e) → Listed L e i (us ++ drop (L.n + 1) os) (L.n + 1)
+row_listed L e i os us li ln room q h =
     record {
-      listing = filled_more os 0 j (λ v. place h i v * e) us j o (omega arith) l p.next p.listing;
-      next = ap (λ (x : ℕ). x + h * e) p.next ∙ sym (add-mul (place h i j) h e) ∙ ap (λ (x : ℕ). x * e) (omega arith);
-    }
-
-pub row_all : (L : Layout) (e i : ℕ) (os : List ℕ) (j o : ℕ) (us : List ℕ) → i < L.r → length os ≡ 33 → L.n + 1 ≤ j → RowTo (height L) e i os j o us
-    → Listed L e i us (L.n + 1)
-row_all L e i os j o us li l h p =
-    record {
-      room = p.listing.long ∙ l;
+      room = put_long (L.n + 1) os us q ∙ room;
       count = sym (row_length L i) ∙ ap length (sym (line_row L i li));
       each = λ v lv.
-          (filled_begins os j (λ x. X L i x * e) us p.listing).each v (omega arith)
-          ∙ ap (λ (q : ℕ). q * e) (sym (row_at L i v (omega arith)) ∙ ap (λ (ps : List ℕ). get_or ps v 0) (sym (line_row L i li)));
+          get_or-append us (drop (L.n + 1) os) 0 v (omega (arith, long))
+          ∙ h v (omega (arith, long))
+          ∙ ap (λ (p : ℕ). p * e) (sym (row_at L i v (omega arith)) ∙ ap (λ (ps : List ℕ). get_or ps v 0) (sym (line_row L i li)));
     }
+  where
+    long : length us ≡ L.n + 1
+    long = q ∙ length-take-le (L.n + 1) os (omega arith)
 
 -- ---- a diagonal
 
-module _ (L : Layout) (e d : ℕ) where
-  -- where place p of the diagonal starts
-  on_line : (v p : ℕ) → p ≡ get_or (line L (L.r + d)) v 0 → (o : ℕ) → o ≡ p * e → o ≡ get_or (line L (L.r + d)) v 0 * e
-  on_line v p q o z = z ∙ ap (λ (x : ℕ). x * e) q
+-- its r data elements are listed, each where it starts, and its U is put after them
+pub diagonal_listed : (L : Layout) (e d : ℕ) (os us : List ℕ) (u : ℕ) → L.r ≤ 32 → length os ≡ 33 → length us ≡ length (take L.r os)
+    → ((v : ℕ) → v < length us → get_or us v 0 ≡ X L v (L.meets v d) * e) → u ≡ U L d * e
+    → Listed L e (L.r + d) (set (us ++ drop L.r os) L.r u) (L.r + 1)
+diagonal_listed L e d os us u lr room q h w =
+    record {
+      room = length-set (us ++ drop L.r os) L.r u ∙ whole;
+      count = sym (diagonal_length L d) ∙ ap length (sym (line_diagonal L d));
+      each = λ v lv. go v lv (dec_lt v L.r) ∙ ap (λ (ps : List ℕ). get_or ps v 0 * e) (sym (line_diagonal L d));
+    }
+  where
+    whole : length (us ++ drop L.r os) ≡ 33
+    whole = put_long L.r os us q ∙ room
 
-  -- the first i elements of diagonal d are listed, and o is where that of the next row starts
-  pub record DiagonalTo (os : List ℕ) (i o : ℕ) (us : List ℕ) : Type 0 where
-    pub within : i ≤ L.r
-    pub listing : Filled os 0 i (λ v. get_or (line L (L.r + d)) v 0 * e) us
-    pub next : i < L.r → o ≡ X L i (L.meets i d) * e
+    long : length us ≡ L.r
+    long = q ∙ length-take-le L.r os (omega arith)
 
-  pub diagonal_none : (os : List ℕ) (j o : ℕ) → j ≡ L.meets 0 d → o ≡ X L 0 j * e → DiagonalTo os 0 o os
-  diagonal_none os j o q z =
-      record {
-        within = omega arith;
-        listing = filled_none os 0 (λ v. get_or (line L (L.r + d)) v 0 * e);
-        next = λ h. z ∙ ap (λ (x : ℕ). X L 0 x * e) q;
-      }
-
-  module _ (os : List ℕ) (i o : ℕ) (us : List ℕ) (p : DiagonalTo os i o us) where
-    pub diagonal_more : (x : ℕ) → i < L.r → i < length os → (i + 1 < L.r → x ≡ X L (i + 1) (L.meets (i + 1) d) * e) → DiagonalTo os (i + 1) x (set us i o)
-    diagonal_more x li l nx =
-        record {
-          within = omega arith;
-          listing = filled_more os 0 i (λ v. get_or (line L (L.r + d)) v 0 * e) us i o (omega arith) l
-              (on_line i (X L i (L.meets i d)) (sym (diagonal_at L d i li) ∙ ap (λ (ps : List ℕ). get_or ps i 0) (sym (line_diagonal L d))) o (p.next li))
-              p.listing;
-          next = nx;
-        }
-
-    -- and its U last
-    pub diagonal_all : (u : ℕ) → length os ≡ 33 → L.r ≤ 32 → L.r ≤ i → u ≡ U L d * e → Listed L e (L.r + d) (set us L.r u) (L.r + 1)
-    diagonal_all u l h g z =
-        record {
-          room = all.long ∙ l;
-          count = sym (diagonal_length L d) ∙ ap length (sym (line_diagonal L d));
-          each = (filled_begins os (L.r + 1) _ _ all).each;
-        }
-      where
-        all : Filled os 0 (L.r + 1) (λ v. get_or (line L (L.r + d)) v 0 * e) (set us L.r u)
-        all =
-            filled_more os 0 L.r (λ v. get_or (line L (L.r + d)) v 0 * e) us L.r u (omega arith) (omega arith)
-            (on_line L.r (U L d) (sym (diagonal_end L d L.r refl) ∙ ap (λ (ps : List ℕ). get_or ps L.r 0) (sym (line_diagonal L d))) u z)
-            (filled_all os 0 i L.r (λ v. get_or (line L (L.r + d)) v 0 * e) us p.within g p.listing)
+    go : (v : ℕ) → v < L.r + 1 → Dec (v < L.r) → get_or (set (us ++ drop L.r os) L.r u) v 0 ≡ get_or (diagonal_line L d) v 0 * e
+    go v lv (yes l) =
+        get_or-set_other (us ++ drop L.r os) L.r v u 0 (λ z. omega arith)
+        ∙ get_or-append us (drop L.r os) 0 v (omega (arith, long))
+        ∙ h v (omega (arith, long))
+        ∙ ap (λ (p : ℕ). p * e) (sym (diagonal_at L d v l))
+    go v lv (no l) =
+        let last : v ≡ L.r = omega arith in
+        ap (λ (x : ℕ). get_or (set (us ++ drop L.r os) L.r u) x 0) last
+        ∙ get_or-set_same (us ++ drop L.r os) L.r u 0 (omega (arith, whole))
+        ∙ w
+        ∙ ap (λ (p : ℕ). p * e) (sym (diagonal_end L d v last))
 
 -- ---- the same line, said in another way
 

@@ -33,11 +33,9 @@ fn fill_row(shape: Shape, i: usize, offs: &mut [usize; 33]) -> usize
     let e = shape.e;
     let step = h * e;
     let mut o = i * e;
-    let mut j: usize = 0;
-    while j < m {
-        offs[j] = o;
+    for off in offs[..m].iter_mut() {
+        *off = o;
         o += step;
-        j += 1;
     }
     m
 }
@@ -54,11 +52,9 @@ fn fill_diagonal(shape: Shape, d: usize, offs: &mut [usize; 33]) -> usize
     let wrap = start(shape, 1, shape.n - 1);
     let j = shape.meets(0, d);
     let mut o = start(shape, 0, j);
-    let mut i: usize = 0;
-    while i < r {
-        offs[i] = o;
+    for off in offs[..r].iter_mut() {
+        *off = o;
         o = if back <= o { o - back } else { o + wrap };
-        i += 1;
     }
     offs[r] = start(shape, r, d);
     r + 1

@@ -10,10 +10,7 @@ use crate::shapes::Shape;
 fn outside(low: usize, high: usize, x: usize) -> bool
     ensures { result ≡ outside low high x }
 {
-    if x < low {
-        return true;
-    }
-    high < x
+    !(low..=high).contains(&x)
 }
 
 // The shape of four numbers, or the first of the refusals 1 to 4 that holds.

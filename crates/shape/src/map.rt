@@ -21,11 +21,9 @@ fn turned(d: usize, n: usize) -> [u8; 32]
 {
     let mut t = [0u8; 32];
     let mut x = d;
-    let mut j: usize = 0;
-    while j < n {
-        t[j] = x as u8;
+    for entry in t[..n].iter_mut() {
+        *entry = x as u8;
         x = next(x, n);
-        j += 1;
     }
     t
 }
@@ -35,14 +33,11 @@ pub fn map_of(shape: Shape) -> [[u8; 32]; 32]
     ensures { Filled result shape.n shape.r shape.s }
 {
     let n = shape.n;
-    let r = shape.r;
     let mut d = shape.diagonal(0, 0);
     let mut g = [[0u8; 32]; 32];
-    let mut i: usize = 0;
-    while i < r {
-        g[i] = turned(d, n);
+    for row in g[..shape.r].iter_mut() {
+        *row = turned(d, n);
         d = next(d, n);
-        i += 1;
     }
     g
 }

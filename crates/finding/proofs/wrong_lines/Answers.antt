@@ -1,20 +1,20 @@
--- `wrong_lines` meets its contract: from `left` on the wrong lines are counted, and `first` is the first of them. Assumes nothing.
-use Rattle.std.proofs.Common.{rules, arith, sym, ◌∙◌}
-use Rattle.finding.proofs.TallyLaws.{tallying_none, tallying_yes, tallying_no, tallying_all}
+-- `wrong_lines` meets its contract: from v on the wrong lines are counted, and `first` is the first of them. Assumes nothing.
+use Rattle.std.proofs.Common.{arith, sym, ◌∙◌}
+use Rattle.finding.proofs.TallyLaws.{tallying_yes, tallying_no, tallying_all}
 use Rattle.finding.proofs.wrong_lines.Goals as goal
 
-pub loop-left-init : goal.loop-left-init
-loop-left-init c =
-    (tallying_none _ _, search rules)
+pub loop-v-preserved-then-wrong_line : goal.loop-v-preserved-then-wrong_line
+loop-v-preserved-then-wrong_line c = record {
+  tallying = tallying_yes _ _ _ _ _ _ (omega arith) c.loop-v.invariant.tallying (sym c.wrong_line.ensures.value ∙ c.if-wrong_line.true);
+  room = c.wrong_line.ensures.room;
+}
 
-pub loop-left-preserved-then-wrong_line : goal.loop-left-preserved-then-wrong_line
-loop-left-preserved-then-wrong_line c =
-    (tallying_yes _ _ _ _ _ _ (omega arith) c.loop-left.invariant.0 (sym c.wrong_line.ensures.value ∙ c.if-wrong_line.true), c.wrong_line.ensures.room)
-
-pub loop-left-preserved : goal.loop-left-preserved
-loop-left-preserved c =
-    (tallying_no _ _ _ _ _ _ (omega arith) c.loop-left.invariant.0 (sym c.wrong_line.ensures.value ∙ c.if-wrong_line.false), c.wrong_line.ensures.room)
+pub loop-v-preserved : goal.loop-v-preserved
+loop-v-preserved c = record {
+  tallying = tallying_no _ _ _ _ _ _ (omega arith) c.loop-v.invariant.tallying (sym c.wrong_line.ensures.value ∙ c.if-wrong_line.false);
+  room = c.wrong_line.ensures.room;
+}
 
 pub returns : goal.returns
 returns c =
-    tallying_all _ _ _ _ _ c.loop-left-test.false c.loop-left.invariant.0
+    tallying_all _ _ _ _ _ c.loop-v-test.false c.loop-v.invariant.tallying

@@ -1,10 +1,10 @@
--- `fill_row` meets its contract: the table holds where the row's elements of the strips passed start. Assumes nothing.
-use Rattle.std.proofs.Common.{◌-◌}
-use Rattle.lines.specs.ListedLaws.{RowTo}
+-- `fill_row` meets its contract: the row's elements of the strips passed are listed, and o is where the next one starts. Assumes nothing.
+use Rattle.std.proofs.Common.{ℕ, ◌*◌, ◌<◌, ◌≡◌, get_or}
+use Rattle.code.specs.Place.{place}
 use Rattle.lines.proofs.listing.fill_row.Given as goal
 
-abbrev pub invariant-loop-j : goal.invariant-loop-j
-invariant-loop-j l = RowTo l.h l.e l.i l.initial.offs l.j l.o l.offs
-
-abbrev pub decreases-loop-j : goal.decreases-loop-j
-decreases-loop-j l = l.m - l.j
+abbrev pub invariant-loop-off : goal.invariant-loop-off
+invariant-loop-off l = record {
+  next : l.o ≡ place l.h l.i l.off-index * l.e;
+  listed : (v : ℕ) → v < l.off-index → get_or l.off-items v 0 ≡ place l.h l.i v * l.e;
+}

@@ -1,10 +1,11 @@
 -- `map_of` meets its contract: the rows passed are filled, and d starts the next. Assumes nothing.
-use Rattle.std.proofs.Common.{◌≤◌, ◌-◌}
-use Rattle.shape.specs.MapLaws.{Filling}
+use Rattle.std.proofs.Common.{ℕ, ◌+◌, ◌%◌, ◌<◌, [], get_or}
+use Rattle.shape.specs.Answers.{Among}
+use Rattle.shape.specs.Map.{Turned}
 use Rattle.shape.proofs.map.map_of.Given as goal
 
-abbrev pub invariant-loop-i : goal.invariant-loop-i
-invariant-loop-i l = (l.i ≤ l.r) × Filling l.g l.initial.d l.n l.i l.d
-
-abbrev pub decreases-loop-i : goal.decreases-loop-i
-decreases-loop-i l = l.r - l.i
+abbrev pub invariant-loop-row : goal.invariant-loop-row
+invariant-loop-row l = record {
+  next : Among l.n ((l.initial.d + l.row-index) % l.n) l.d;
+  rows : (i : ℕ) → i < l.row-index → Turned (get_or l.row-items i []) (l.initial.d + i) l.n l.n;
+}

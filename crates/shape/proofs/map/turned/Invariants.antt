@@ -1,10 +1,10 @@
 -- `turned` meets its contract: the entries passed are set, and x is the next. Assumes nothing.
-use Rattle.std.proofs.Common.{◌≤◌, ◌-◌}
-use Rattle.shape.specs.MapLaws.{Turning}
+use Rattle.std.proofs.Common.{ℕ, ◌+◌, ◌%◌, ◌<◌, ◌≡◌, get_or}
+use Rattle.shape.specs.Answers.{Among}
 use Rattle.shape.proofs.map.turned.Given as goal
 
-abbrev pub invariant-loop-j : goal.invariant-loop-j
-invariant-loop-j l = (l.j ≤ l.n) × Turning l.t l.d l.n l.j l.x
-
-abbrev pub decreases-loop-j : goal.decreases-loop-j
-decreases-loop-j l = l.n - l.j
+abbrev pub invariant-loop-entry : goal.invariant-loop-entry
+invariant-loop-entry l = record {
+  next : Among l.n ((l.d + l.entry-index) % l.n) l.x;
+  set : (k : ℕ) → k < l.entry-index → get_or l.entry-items k 0 ≡ (l.d + k) % l.n;
+}
