@@ -57,8 +57,8 @@ pub fn run_steps(
     let mut offs = [0usize; 33];
     let mut k: usize = 0;
     while k < count {
-        let row = walker::wide(steps[k * 3 + 1]);
-        let strip = walker::wide(steps[k * 3 + 2]);
+        let row = usize::from(steps[k * 3 + 1]);
+        let strip = usize::from(steps[k * 3 + 2]);
         let t = run_step(shape, steps[k * 3], row, strip, &mut offs, stripe);
         used[t] = 1;
         k += 1;

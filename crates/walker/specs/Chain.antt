@@ -10,7 +10,7 @@ use Rattle.walker.specs.Flags.{Marked, Board, put, put_board, put_adds, unknowns
 use Rattle.walker.specs.Written.{step, written, Recorded, built_adds, right_ext, right_more}
 
 -- every step is right, the flags are those of the steps' targets, all data, and there is room for the elements that are unknown
-pub record State (L : Layout) (lost : ℕ → Bool) (g : List (List ℕ)) (s : List ℕ) (k : ℕ) : Type 0 where
+pub record State (L : Layout) (lost : ℕ → Bool) (g : List (List Bool)) (s : List ℕ) (k : ℕ) : Type 0 where
   pub board : Board L g
   pub size : length s ≡ 198
   pub room : k + unknowns L lost g ≤ 64
@@ -20,7 +20,7 @@ pub record State (L : Layout) (lost : ℕ → Bool) (g : List (List ℕ)) (s : L
   pub from : (i j : ℕ) → BuiltAt (written s) k i j → Marked g i j
 
 -- the line K was followed: it gives nothing more, and no line gives what it did not give before
-pub record Stepped (L : Layout) (lost : ℕ → Bool) (K : Line) (g f : List (List ℕ)) (s : List ℕ) (k : ℕ) : Type 0 where
+pub record Stepped (L : Layout) (lost : ℕ → Bool) (K : Line) (g f : List (List Bool)) (s : List ℕ) (k : ℕ) : Type 0 where
   pub state : State L lost f s k
   pub none : (i j : ℕ) → Lone L lost (Marked f) K i j → ⊥
   pub opened : (M : Line) (i j : ℕ) → Lone L lost (Marked f) M i j → Lone L lost (Marked g) M i j
@@ -43,11 +43,11 @@ diagonal_first L d i j e K o = go (through L i j K o)
     go (inr p) = inl (p ∙ ap diagonal e)
 
 -- a line that gives nothing is followed by standing still
-pub stepped_none : {L : Layout} {lost : ℕ → Bool} {K : Line} {g : List (List ℕ)} {s : List ℕ} {k : ℕ} → State L lost g s k
+pub stepped_none : {L : Layout} {lost : ℕ → Bool} {K : Line} {g : List (List Bool)} {s : List ℕ} {k : ℕ} → State L lost g s k
     → ((i j : ℕ) → Lone L lost (Marked g) K i j → ⊥) → Stepped L lost K g g s k
 stepped_none S none = record { state = S; none = none; opened = λ M i j x. x }
 
-module _ {L : Layout} {lost : ℕ → Bool} {K : Line} {g : List (List ℕ)} {s : List ℕ} {k i j : ℕ} (S : State L lost g s k)
+module _ {L : Layout} {lost : ℕ → Bool} {K : Line} {g : List (List Bool)} {s : List ℕ} {k i j : ℕ} (S : State L lost g s k)
     (x : Lone L lost (Marked g) K i j) where
   adds : Adds (Marked g) (Marked (put g i j)) i j
   adds = put_adds S.board x.row_below x.strip_below
@@ -88,7 +88,7 @@ module _ {L : Layout} {lost : ℕ → Bool} {K : Line} {g : List (List ℕ)} {s 
           go (inr e) = subst (λ (v : ℕ). E h v) (sym e.1) (subst (λ (u : ℕ). E u j) (sym e.0) q.here)
 
   -- the chain went on by the other line through the element
-  pub stepped_on : {M : Line} → ((N : Line) → On L N i j → (N ≡ K) ⊎ (N ≡ M)) → {f : List (List ℕ)} {t : List ℕ} {e : ℕ}
+  pub stepped_on : {M : Line} → ((N : Line) → On L N i j → (N ≡ K) ⊎ (N ≡ M)) → {f : List (List Bool)} {t : List ℕ} {e : ℕ}
       → Stepped L lost M (put g i j) f t e → Stepped L lost K g f t e
   stepped_on two z =
       record {

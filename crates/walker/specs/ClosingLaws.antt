@@ -16,7 +16,7 @@ use Rattle.walker.specs.Chain.{State}
 use Rattle.walker.specs.Closing.{Closing, BuiltV, BuiltH, WrittenH}
 
 -- all lost data is built, and no parity
-pub closing_start : {L : Layout} {lost : ℕ → Bool} {g : List (List ℕ)} {s : List ℕ} {k : ℕ} → State L lost g s k
+pub closing_start : {L : Layout} {lost : ℕ → Bool} {g : List (List Bool)} {s : List ℕ} {k : ℕ} → State L lost g s k
     → ((i j : ℕ) → i < L.r → j < L.n → lost j ≡ true → Marked g i j) → Closing L lost s k 0 0
 closing_start {L} {lost} {g} {s} {k} S all =
     record {
@@ -32,7 +32,7 @@ closing_start {L} {lost} {g} {s} {k} S all =
     past l = omega arith
 
 -- both strips are built
-pub both_built : {n r : ℕ} {g : List (List ℕ)} (a b : ℕ) {t u : Bool} → StripBuilt n r g a t → t ≡ true → StripBuilt n r g b u → u ≡ true
+pub both_built : {n r : ℕ} {g : List (List Bool)} (a b : ℕ) {t u : Bool} → StripBuilt n r g a t → t ≡ true → StripBuilt n r g b u → u ≡ true
     → (i j : ℕ) → i < r → j < n → pair a b j ≡ true → Marked g i j
 both_built {n} {r} {g} a b p et q eu i j li lj e = go (pair_yes a b j e)
   where
@@ -201,7 +201,7 @@ module _ {n r a b : ℕ} {s : List ℕ} {k : ℕ} (la : a ≤ b) (lb : b ≤ n) 
     built_v_two p q y = record { room = omega arith; size = y.size ∙ w.size ∙ z; any = λ m h F c. v_two a b la lb c F l w p q y }
 
 -- a walk that built all lost data, and then every lost U and H
-pub walk_built : {n r : ℕ} {g : List (List ℕ)} {s t v : List ℕ} {k e f : ℕ} (m : List (List ℕ)) (h : List ℕ) (a b : ℕ) → a ≤ b → Fair (drawn m h n r)
+pub walk_built : {n r : ℕ} {g : List (List Bool)} {s t v : List ℕ} {k e f : ℕ} (m : List (List ℕ)) (h : List ℕ) (a b : ℕ) → a ≤ b → Fair (drawn m h n r)
     → State (drawn m h n r) (pair a b) g s k → ((i j : ℕ) → i < r → j < n → pair a b j ≡ true → Marked g i j)
     → BuiltV n r a b s k t e → BuiltH n r b t e v f → Walk (drawn m h n r) (pair a b) (written v) f true
 walk_built m h a b la F S all x y = walk_whole (y.any m h a la (x.any m h F (closing_start S all))) y.room

@@ -15,7 +15,7 @@ use Rattle.walker.specs.Search.{Case, Gap}
 use Rattle.walker.specs.Chain.{State, Stepped}
 
 -- the first x rows and the first d diagonals give nothing
-pub record Swept (L : Layout) (lost : ℕ → Bool) (g : List (List ℕ)) (s : List ℕ) (k x d : ℕ) : Type 0 where
+pub record Swept (L : Layout) (lost : ℕ → Bool) (g : List (List Bool)) (s : List ℕ) (k x d : ℕ) : Type 0 where
   pub state : State L lost g s k
   pub no_row : (v : ℕ) → v < x → (i j : ℕ) → Lone L lost (Marked g) (row v) i j → ⊥
   pub no_diagonal : (v : ℕ) → v < d → (i j : ℕ) → Lone L lost (Marked g) (diagonal v) i j → ⊥
@@ -39,7 +39,7 @@ begin L a b c z =
     early l = omega arith
 
 -- where strip n is lost its elements have room too
-pub h_room : (L : Layout) (a b : ℕ) {g : List (List ℕ)} {s : List ℕ} {k : ℕ} → State L (pair a b) g s k → b ≡ L.n → k + L.r ≤ 64
+pub h_room : (L : Layout) (a b : ℕ) {g : List (List Bool)} {s : List ℕ} {k : ℕ} → State L (pair a b) g s k → b ≡ L.n → k + L.r ≤ 64
 h_room L a b {g} S e =
     omega (
       arith,
@@ -50,11 +50,11 @@ h_room L a b {g} S e =
     past : L.n < L.n → ⊥
     past l = omega arith
 
-module _ {L : Layout} {lost : ℕ → Bool} {g : List (List ℕ)} {s : List ℕ} {k : ℕ} where
+module _ {L : Layout} {lost : ℕ → Bool} {g : List (List Bool)} {s : List ℕ} {k : ℕ} where
   pub swept_none : State L lost g s k → Swept L lost g s k 0 0
   swept_none S = record { state = S; no_row = λ v l. absurd (omega arith); no_diagonal = λ v l. absurd (omega arith) }
 
-  module _ {x d : ℕ} (w : Swept L lost g s k x d) {f : List (List ℕ)} {t : List ℕ} {e : ℕ} where
+  module _ {x d : ℕ} (w : Swept L lost g s k x d) {f : List (List Bool)} {t : List ℕ} {e : ℕ} where
     pub row_passed : Stepped L lost (row x) g f t e → Swept L lost f t e (x + 1) d
     row_passed z =
         record {

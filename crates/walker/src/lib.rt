@@ -14,8 +14,7 @@ ghost use Rattle.walker.specs.Chain.{State, Stepped};
 ghost use Rattle.walker.specs.Sweep.{Swept};
 ghost use Rattle.walker.specs.Closing.{BuiltV, BuiltH};
 
-use crate::find::{Found, lone_in_row, lone_on_diagonal, look, strip_built};
-pub use find::wide;
+use crate::find::{lone_in_row, lone_on_diagonal, strip_built};
 
 // What a walk answers: how many steps it wrote down, and whether they build every lost element.
 #[derive(Clone, Copy)]
@@ -44,19 +43,19 @@ fn row_step(
     a: usize,
     b: usize,
     i: usize,
-    built: &mut [[u8; 32]; 32],
+    built: &mut [[bool; 32]; 32],
     steps: &mut [u8; 198],
     k: usize,
 ) -> usize
     requires { Case n r a b × Fair (drawn map.now home.now n r) × (i < r) × State (drawn map.now home.now n r) (pair a b) built.old steps.old k }
     ensures { Stepped (drawn map.now home.now n r) (pair a b) (row i) built.old built.new steps.new result }
 {
-    let Found::At(h, l) = lone_in_row(built, n, a, b, i) else {
+    let Some((h, l)) = lone_in_row(built, n, a, b, i) else {
         return k;
     };
-    built[h][l] = 1;
+    built[h][l] = true;
     record_step(steps, k, 1, h, l);
-    let d = look(map, h, l);
+    let d = usize::from(map[h][l]);
     diag_step(map, home, n, r, a, b, d, built, steps, k + 1)
 }
 
@@ -70,17 +69,17 @@ fn diag_step(
     a: usize,
     b: usize,
     d: usize,
-    built: &mut [[u8; 32]; 32],
+    built: &mut [[bool; 32]; 32],
     steps: &mut [u8; 198],
     k: usize,
 ) -> usize
     requires { Case n r a b × Fair (drawn map.now home.now n r) × (d < n) × State (drawn map.now home.now n r) (pair a b) built.old steps.old k }
     ensures { Stepped (drawn map.now home.now n r) (pair a b) (diagonal d) built.old built.new steps.new result }
 {
-    let Found::At(h, l) = lone_on_diagonal(map, home, built, n, r, a, b, d) else {
+    let Some((h, l)) = lone_on_diagonal(map, home, built, n, r, a, b, d) else {
         return k;
     };
-    built[h][l] = 1;
+    built[h][l] = true;
     record_step(steps, k, 2, h, l);
     row_step(map, home, n, r, a, b, h, built, steps, k + 1)
 }
@@ -93,7 +92,7 @@ fn follow_rows(
     r: usize,
     a: usize,
     b: usize,
-    built: &mut [[u8; 32]; 32],
+    built: &mut [[bool; 32]; 32],
     steps: &mut [u8; 198],
 ) -> usize
     requires { Case n r a b × Fair (drawn map.now home.now n r) × State (drawn map.now home.now n r) (pair a b) built.old steps.old 0 }
@@ -114,7 +113,7 @@ fn follow_diagonals(
     r: usize,
     a: usize,
     b: usize,
-    built: &mut [[u8; 32]; 32],
+    built: &mut [[bool; 32]; 32],
     steps: &mut [u8; 198],
     count: usize,
 ) -> usize
@@ -175,21 +174,16 @@ pub fn walk(
     requires { Case n r a b × Fair (drawn map.now home.now n r) × (length steps.old ≡ 198) }
     ensures { Walk (drawn map.now home.now n r) (pair a b) (written steps.new) result.count result.whole }
 {
-    let mut built = [[0u8; 32]; 32];
+    let mut built = [[false; 32]; 32];
     let first = follow_rows(map, home, n, r, a, b, &mut built, steps);
     let data = follow_diagonals(map, home, n, r, a, b, &mut built, steps, first);
-    if strip_built(&built, n, r, a) {
-        if strip_built(&built, n, r, b) {
-            let more = build_v(n, r, a, b, steps, data);
-            let count = build_h(n, r, b, steps, more);
-            return Outcome {
-                count: count,
-                whole: true,
-            };
-        }
+    if !strip_built(&built, n, r, a) || !strip_built(&built, n, r, b) {
+        return Outcome {
+            count: data,
+            whole: false,
+        };
     }
-    Outcome {
-        count: data,
-        whole: false,
-    }
+    let more = build_v(n, r, a, b, steps, data);
+    let count = build_h(n, r, b, steps, more);
+    Outcome { count, whole: true }
 }

@@ -29,8 +29,8 @@ fn mark(shape: Shape, steps: &[u8; 198], count: usize) -> [u8; 64]
     let mut used = [0u8; 64];
     let mut k: usize = 0;
     while k < count {
-        let row = walker::wide(steps[k * 3 + 1]);
-        let strip = walker::wide(steps[k * 3 + 2]);
+        let row = usize::from(steps[k * 3 + 1]);
+        let strip = usize::from(steps[k * 3 + 2]);
         let t = line_of(shape, steps[k * 3], row, strip);
         used[t] = 1;
         k += 1;

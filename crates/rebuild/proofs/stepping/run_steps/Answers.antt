@@ -20,7 +20,7 @@ pub run_step-t-requires : goal.run_step-t-requires
 run_step-t-requires c =
     record {
       limits = c.requires.limits;
-      shaped = subst (Shaped c.args.shape.n c.args.shape.r) (the_step c.args.steps.now c.loop-k.k _ _ c.wide-row.ensures c.wide-strip.ensures)
+      shaped = subst (Shaped c.args.shape.n c.args.shape.r) (the_step c.args.steps.now c.loop-k.k _ _ c.from-row.ensures c.from-strip.ensures)
           (c.requires.steps.1 c.loop-k.k (omega arith));
       size = c.loop-k.invariant.1.size ∙ c.requires.size;
       room = c.loop-k.invariant.2;
@@ -34,7 +34,7 @@ pub loop-k-preserved : goal.loop-k-preserved
 loop-k-preserved c = (
   omega arith,
   running_more _ _ _ _ c.loop-k.k _ _ _ c.loop-k.invariant.1 _
-      (the_step c.args.steps.now c.loop-k.k _ _ c.wide-row.ensures c.wide-strip.ensures)
+      (the_step c.args.steps.now c.loop-k.k _ _ c.from-row.ensures c.from-strip.ensures)
       _ c.run_step-t.ensures.stepped,
   c.run_step-t.ensures.room,
 )

@@ -6,4 +6,4 @@ use Rattle.worked.proofs.unused.mark.Goals as goal
 pub line_of-t-requires : goal.line_of-t-requires
 unfolding written
 line_of-t-requires c =
-    record { limits = c.requires.limits; shaped = rw (c.wide-row.ensures, c.wide-strip.ensures) (c.requires.steps.1 c.loop-k.k (omega arith)) }
+    record { limits = c.requires.limits; shaped = rw (c.from-row.ensures, c.from-strip.ensures) (c.requires.steps.1 c.loop-k.k (omega arith)) }
