@@ -20,16 +20,16 @@ diag_step-bounds-built-l t c =
     let x = c.in-Some.ensures in
     omega (arith, x.strip_below)
 
-pub diag_step-record_step-requires : goal.diag_step-record_step-requires
-diag_step-record_step-requires t c =
+pub diag_step-push-requires : goal.diag_step-push-requires
+diag_step-push-requires t c =
     let x = c.in-Some.ensures in
-    (omega (arith, space c.requires.3 x), omega (arith, x.row_below), omega (arith, x.strip_below), c.requires.3.size)
+    omega (arith, space c.requires.3 x)
 
 pub diag_step-row_step-requires : goal.diag_step-row_step-requires
 diag_step-row_step-requires t c =
     let x = c.in-Some.ensures in (
       omega (arith, fall c.requires.3 x, c.decreases),
-      (c.requires.0, c.requires.1, x.row_below, taken c.requires.3 x c.record_step.ensures (diagonal_right x)),
+      (c.requires.0, c.requires.1, x.row_below, taken c.requires.3 x c.push.ensures (diagonal_right x)),
     )
 
 pub diag_step-returns : goal.diag_step-returns
@@ -56,10 +56,10 @@ row_step-bounds-built-l t c =
     let x = c.in-Some.ensures.any c.args.map.now c.args.home.now _ c.requires.2 in
     omega (arith, x.strip_below)
 
-pub row_step-record_step-requires : goal.row_step-record_step-requires
-row_step-record_step-requires t c =
+pub row_step-push-requires : goal.row_step-push-requires
+row_step-push-requires t c =
     let x = c.in-Some.ensures.any c.args.map.now c.args.home.now _ c.requires.2 in
-    (omega (arith, space c.requires.3 x), omega (arith, x.row_below), omega (arith, x.strip_below), c.requires.3.size)
+    omega (arith, space c.requires.3 x)
 
 pub row_step-diag_step-requires : goal.row_step-diag_step-requires
 row_step-diag_step-requires t c =
@@ -69,7 +69,7 @@ row_step-diag_step-requires t c =
         c.requires.0,
         c.requires.1,
         omega (arith, c.from-d.ensures, c.requires.1.diagonal_lt _ _ x.row_below x.strip_below),
-        taken c.requires.3 x c.record_step.ensures (row_right x),
+        taken c.requires.3 x c.push.ensures (row_right x),
       ),
     )
 
