@@ -24,9 +24,8 @@ fn run(shape: Shape, a: usize, b: usize, stripe: &mut [u8], used: &mut [u8; 64])
 {
     let map = shape::map::map_of(shape);
     let home = shape::map::homes();
-    let mut steps = [0u8; 198];
-    let walked = walker::walk(&map, &home, shape.n, shape.r, a, b, &mut steps);
-    run_steps(shape, &steps, walked.count, stripe, used);
+    let plan = walker::walk(&map, &home, shape.n, shape.r, a, b).plan;
+    run_steps(shape, &plan, stripe, used);
 }
 
 // With the strips a and b lost, which are one strip where they are the same.

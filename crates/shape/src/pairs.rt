@@ -9,9 +9,7 @@ pub fn fails(map: [[u8; 32]; 32], home: [u8; 32], n: usize, r: usize, a: usize, 
     requires { (a < b) × (b ≤ n) × MapOf map home n r }
     ensures { Exact (drawn map home n r) a b result }
 {
-    let mut steps: [u8; 198] = [0; 198];
-    let w = walker::walk(&map, &home, n, r, a, b, &mut steps);
-    !w.whole
+    !walker::walk(&map, &home, n, r, a, b).whole
 }
 
 // The first pair of the strips 0 to n that fails, by lower strip, then by upper strip.

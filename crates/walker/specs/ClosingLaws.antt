@@ -1,5 +1,5 @@
 -- Laws of the end of a walk: each step for a parity is right and new, and in the end every lost place is built. Assumes nothing.
-use Rattle.std.specs.Prelude.{ℕ, ◌+◌, ◌<◌, ◌≤◌, ◌≡◌, refl, List, Bool, true, false, ◌⊎◌, length}
+use Rattle.std.specs.Prelude.{ℕ, ◌+◌, ◌<◌, ◌≤◌, ◌≡◌, refl, List, Bool, true, false, ◌⊎◌}
 use Rattle.std.proofs.Common.{sym, ◌∙◌, subst, inl, inr, arith}
 use Rattle.std.proofs.Math.Decide.{ℕ_discrete, dec_lt}
 use Rattle.code.specs.SumLaws.{clash}
@@ -9,6 +9,7 @@ use Rattle.code.specs.Drawn.{drawn}
 use Rattle.code.specs.LiveLaws.{Adds, known_of}
 use Rattle.code.specs.Steps.{BuiltAt, of_row, of_strip}
 use Rattle.code.specs.Walk.{Walk}
+use Rattle.walker.specs.declared.plan.Step.{Step}
 use Rattle.walker.specs.Flags.{Marked}
 use Rattle.walker.specs.Written.{written, Recorded, built_adds, right_more}
 use Rattle.walker.specs.Search.{StripBuilt}
@@ -16,7 +17,7 @@ use Rattle.walker.specs.Chain.{State}
 use Rattle.walker.specs.Closing.{Closing, BuiltV, BuiltH, WrittenH}
 
 -- all lost data is built, and no parity
-pub closing_start : {L : Layout} {lost : ℕ → Bool} {g : List (List ℕ)} {s : List ℕ} {k : ℕ} → State L lost g s k
+pub closing_start : {L : Layout} {lost : ℕ → Bool} {g : List (List Bool)} {s : List Step} {k : ℕ} → State L lost g s k
     → ((i j : ℕ) → i < L.r → j < L.n → lost j ≡ true → Marked g i j) → Closing L lost s k 0 0
 closing_start {L} {lost} {g} {s} {k} S all =
     record {
@@ -32,7 +33,7 @@ closing_start {L} {lost} {g} {s} {k} S all =
     past l = omega arith
 
 -- both strips are built
-pub both_built : {n r : ℕ} {g : List (List ℕ)} (a b : ℕ) {t u : Bool} → StripBuilt n r g a t → t ≡ true → StripBuilt n r g b u → u ≡ true
+pub both_built : {n r : ℕ} {g : List (List Bool)} (a b : ℕ) {t u : Bool} → StripBuilt n r g a t → t ≡ true → StripBuilt n r g b u → u ≡ true
     → (i j : ℕ) → i < r → j < n → pair a b j ≡ true → Marked g i j
 both_built {n} {r} {g} a b p et q eu i j li lj e = go (pair_yes a b j e)
   where
@@ -40,11 +41,11 @@ both_built {n} {r} {g} a b p et q eu i j li lj e = go (pair_yes a b j e)
     go (inl z) = subst (λ (v : ℕ). Marked g i v) (sym z) (p.all et (subst (λ (v : ℕ). v < n) z lj) i li)
     go (inr z) = subst (λ (v : ℕ). Marked g i v) (sym z) (q.all eu (subst (λ (v : ℕ). v < n) z lj) i li)
 
-module _ {L : Layout} {lost : ℕ → Bool} {s : List ℕ} {k u h : ℕ} (c : Closing L lost s k u h) where
+module _ {L : Layout} {lost : ℕ → Bool} {s : List Step} {k u h : ℕ} (c : Closing L lost s k u h) where
   -- U of strip j, with no lost strip between u and j
   pub closing_v : Fair L → (j : ℕ) → u ≤ j → j < L.n → lost j ≡ true → ((x : ℕ) → u ≤ x → x < j → lost x ≡ true → ⊥)
-      → {t : List ℕ} → Recorded s k 4 L.r j t → Closing L lost t (k + 1) (j + 1) h
-  closing_v F j lu lj e none {t} w =
+      → {t : List Step} {f : ℕ} → Recorded s k 4 L.r j t f → Closing L lost t f (j + 1) h
+  closing_v F j lu lj e none {t} {f} w =
       record {
         right = right_more w c.right
             (of_strip refl refl lj e (c.v_new j lu lj)
@@ -57,11 +58,11 @@ module _ {L : Layout} {lost : ℕ → Bool} {s : List ℕ} {k u h : ℕ} (c : Cl
         h_new = λ x lx lr b. apart x lx lr (adds.only x L.n b);
       }
     where
-      adds : Adds (BuiltAt (written s) k) (BuiltAt (written t) (k + 1)) L.r j
+      adds : Adds (BuiltAt (written s) k) (BuiltAt (written t) f) L.r j
       adds = built_adds w
 
-      built : (x : ℕ) → x < j + 1 → lost x ≡ true → Dec (x ≡ j) → Dec (x < u) → BuiltAt (written t) (k + 1) L.r x
-      built x lx z (yes q) d = subst (λ (v : ℕ). BuiltAt (written t) (k + 1) L.r v) (sym q) adds.here
+      built : (x : ℕ) → x < j + 1 → lost x ≡ true → Dec (x ≡ j) → Dec (x < u) → BuiltAt (written t) f L.r x
+      built x lx z (yes q) d = subst (λ (v : ℕ). BuiltAt (written t) f L.r v) (sym q) adds.here
       built x lx z (no ne) (yes l) = adds.grows L.r x (c.v_built x l z)
       built x lx z (no ne) (no l) = absurd (none x (omega arith) (omega arith) z)
 
@@ -90,8 +91,8 @@ module _ {L : Layout} {lost : ℕ → Bool} {s : List ℕ} {k u h : ℕ} (c : Cl
       built x lx z (no l) = absurd (none x (omega arith) lx z)
 
   -- H of row h
-  pub closing_h : lost L.n ≡ true → h < L.r → {t : List ℕ} → Recorded s k 3 h L.n t → Closing L lost t (k + 1) u (h + 1)
-  closing_h e lh {t} w =
+  pub closing_h : lost L.n ≡ true → h < L.r → {t : List Step} {f : ℕ} → Recorded s k 3 h L.n t f → Closing L lost t f u (h + 1)
+  closing_h e lh {t} {f} w =
       record {
         right = right_more w c.right
             (of_row refl lh refl e (c.h_new h (omega arith) lh) (λ j lj. known_of lost (BuiltAt (written s) k) h j (c.elements h j lh lj)));
@@ -102,15 +103,15 @@ module _ {L : Layout} {lost : ℕ → Bool} {s : List ℕ} {k u h : ℕ} (c : Cl
         h_new = λ x lx lr b. new x lx lr (adds.only x L.n b);
       }
     where
-      adds : Adds (BuiltAt (written s) k) (BuiltAt (written t) (k + 1)) h L.n
+      adds : Adds (BuiltAt (written s) k) (BuiltAt (written t) f) h L.n
       adds = built_adds w
 
       apart : (x : ℕ) → u ≤ x → x < L.n → BuiltAt (written s) k L.r x ⊎ ((L.r ≡ h) × (x ≡ L.n)) → ⊥
       apart x lx ln (inl b) = c.v_new x lx ln b
       apart x lx ln (inr q) = omega (arith, q.1)
 
-      built : (x : ℕ) → x < h + 1 → Dec (x ≡ h) → BuiltAt (written t) (k + 1) x L.n
-      built x lx (yes q) = subst (λ (v : ℕ). BuiltAt (written t) (k + 1) v L.n) (sym q) adds.here
+      built : (x : ℕ) → x < h + 1 → Dec (x ≡ h) → BuiltAt (written t) f x L.n
+      built x lx (yes q) = subst (λ (v : ℕ). BuiltAt (written t) f v L.n) (sym q) adds.here
       built x lx (no ne) = adds.grows x L.n (c.h_built e x (omega arith))
 
       new : (x : ℕ) → h + 1 ≤ x → x < L.r → BuiltAt (written s) k x L.n ⊎ ((x ≡ h) × (L.n ≡ L.n)) → ⊥
@@ -130,7 +131,7 @@ module _ {L : Layout} {lost : ℕ → Bool} {s : List ℕ} {k u h : ℕ} (c : Cl
       }
 
 -- every lost place is built
-pub walk_whole : {L : Layout} {lost : ℕ → Bool} {s : List ℕ} {k : ℕ} → Closing L lost s k L.n L.r → k ≤ 66 → Walk L lost (written s) k true
+pub walk_whole : {L : Layout} {lost : ℕ → Bool} {s : List Step} {k : ℕ} → Closing L lost s k L.n L.r → k ≤ 66 → Walk L lost (written s) k true
 walk_whole c l =
     record {
       room = l;
@@ -152,56 +153,53 @@ beside a b u v p q x lu lv e = go p q (pair_yes a b x e)
     go y (inl l) (inr z) = omega arith
     go y (inr l) (inr z) = omega arith
 
-module _ {L : Layout} {s : List ℕ} {k : ℕ} (a b : ℕ) (la : a ≤ b) (lb : b ≤ L.n) (c : Closing L (pair a b) s k 0 0) where
+module _ {L : Layout} {s : List Step} {k : ℕ} (a b : ℕ) (la : a ≤ b) (lb : b ≤ L.n) (c : Closing L (pair a b) s k 0 0) where
   pub v_none : a ≡ L.n → Closing L (pair a b) s k L.n 0
   v_none e = closing_skip c L.n (omega arith) (beside a b 0 L.n (inr (omega arith)) (inr (omega arith)))
 
-  module _ (F : Fair L) (l : a < L.n) {t : List ℕ} (w : Recorded s k 4 L.r a t) where
-    v_first : Closing L (pair a b) t (k + 1) (a + 1) 0
+  module _ (F : Fair L) (l : a < L.n) {t : List Step} {e : ℕ} (w : Recorded s k 4 L.r a t e) where
+    v_first : Closing L (pair a b) t e (a + 1) 0
     v_first = closing_v c F a (omega arith) l (pair_left a b) (beside a b 0 a (inr (omega arith)) (inr la)) w
 
-    pub v_one : (b < a + 1) ⊎ (L.n ≤ b) → Closing L (pair a b) t (k + 1) L.n 0
+    pub v_one : (b < a + 1) ⊎ (L.n ≤ b) → Closing L (pair a b) t e L.n 0
     v_one z = closing_skip v_first L.n (omega arith) (beside a b (a + 1) L.n (inl (omega arith)) z)
 
-    pub v_two : a < b → b < L.n → {v : List ℕ} → Recorded t (k + 1) 4 L.r b v → Closing L (pair a b) v (k + 2) L.n 0
-    v_two k₁ k₂ {v} y =
-        subst (λ (e : ℕ). Closing L (pair a b) v e L.n 0) (omega arith)
-        (closing_skip (closing_v v_first F b (omega arith) k₂ (pair_right a b) (beside a b (a + 1) b (inl (omega arith)) (inr (omega arith))) y) L.n (omega arith)
-        (beside a b (b + 1) L.n (inl (omega arith)) (inl (omega arith))))
+    pub v_two : a < b → b < L.n → {v : List Step} {f : ℕ} → Recorded t e 4 L.r b v f → Closing L (pair a b) v f L.n 0
+    v_two k₁ k₂ y =
+        closing_skip (closing_v v_first F b (omega arith) k₂ (pair_right a b) (beside a b (a + 1) b (inl (omega arith)) (inr (omega arith))) y) L.n (omega arith)
+        (beside a b (b + 1) L.n (inl (omega arith)) (inl (omega arith)))
 
-module _ {n r b : ℕ} {s : List ℕ} {k : ℕ} where
-  pub h_kept : b < n → k ≤ 66 → BuiltH n r b s k s k
-  h_kept l lk = record { room = lk; any = λ m h a la c. closing_kept c (pair_no a b n (omega arith) (omega arith)) }
+module _ {n r b : ℕ} {s : List Step} {k : ℕ} where
+  pub h_kept : b < n → BuiltH n r b s k s k
+  h_kept l = record { any = λ m h a la c. closing_kept c (pair_no a b n (omega arith) (omega arith)) }
 
-  pub h_none : length s ≡ 198 → WrittenH n r b s k s 0
-  h_none z = record { size = z; any = λ m h a c. subst (λ (e : ℕ). Closing (drawn m h n r) (pair a b) s e n 0) (omega arith) c }
+  pub h_none : WrittenH n r b s k s k 0
+  h_none = record { count = omega arith; any = λ m h a c. c }
 
-  pub h_more : {t : List ℕ} {i : ℕ} → WrittenH n r b s k t i → b ≡ n → i < r → {v : List ℕ} → Recorded t (k + i) 3 i n v → WrittenH n r b s k v (i + 1)
-  h_more {t} {i} x e l {v} w =
+  pub h_more : {t : List Step} {e i : ℕ} → WrittenH n r b s k t e i → b ≡ n → i < r → {v : List Step} {f : ℕ} → Recorded t e 3 i n v f → WrittenH n r b s k v f (i + 1)
+  h_more x e l w =
       record {
-        size = w.size ∙ x.size;
-        any = λ m h a c.
-            subst (λ (z : ℕ). Closing (drawn m h n r) (pair a b) v z n (i + 1)) (omega arith)
-            (closing_h (x.any m h a c) (subst (λ (z : ℕ). pair a b z ≡ true) e (pair_right a b)) l w);
+        count = omega (arith, w.count, x.count);
+        any = λ m h a c. closing_h (x.any m h a c) (subst (λ (z : ℕ). pair a b z ≡ true) e (pair_right a b)) l w;
       }
 
-  pub h_all : {t : List ℕ} {i : ℕ} → WrittenH n r b s k t i → i ≡ r → k + r ≤ 66 → BuiltH n r b s k t (k + r)
-  h_all {t} x e l = record { room = l; any = λ m h a la c. subst (λ (z : ℕ). Closing (drawn m h n r) (pair a b) t (k + z) n z) e (x.any m h a c) }
+  pub h_all : {t : List Step} {e i : ℕ} → WrittenH n r b s k t e i → i ≡ r → BuiltH n r b s k t e
+  h_all {t} {e} x q = record { any = λ m h a la c. subst (λ (z : ℕ). Closing (drawn m h n r) (pair a b) t e n z) q (x.any m h a c) }
 
 -- the U that the two lost strips have
-module _ {n r a b : ℕ} {s : List ℕ} {k : ℕ} (la : a ≤ b) (lb : b ≤ n) where
-  pub built_v_none : length s ≡ 198 → a ≡ n → BuiltV n r a b s k s k
-  built_v_none z e = record { room = omega arith; size = z; any = λ m h F c. v_none a b la lb c e }
+module _ {n r a b : ℕ} {s : List Step} {k : ℕ} (la : a ≤ b) (lb : b ≤ n) where
+  pub built_v_none : a ≡ n → BuiltV n r a b s k s k
+  built_v_none e = record { room = omega arith; any = λ m h F c. v_none a b la lb c e }
 
-  module _ (l : a < n) {t : List ℕ} (w : Recorded s k 4 r a t) (z : length s ≡ 198) where
-    pub built_v_one : (b < a + 1) ⊎ (n ≤ b) → BuiltV n r a b s k t (k + 1)
-    built_v_one q = record { room = omega arith; size = w.size ∙ z; any = λ m h F c. v_one a b la lb c F l w q }
+  module _ (l : a < n) {t : List Step} {e : ℕ} (w : Recorded s k 4 r a t e) where
+    pub built_v_one : (b < a + 1) ⊎ (n ≤ b) → BuiltV n r a b s k t e
+    built_v_one q = record { room = omega (arith, w.count); any = λ m h F c. v_one a b la lb c F l w q }
 
-    pub built_v_two : a < b → b < n → {v : List ℕ} → Recorded t (k + 1) 4 r b v → BuiltV n r a b s k v (k + 2)
-    built_v_two p q y = record { room = omega arith; size = y.size ∙ w.size ∙ z; any = λ m h F c. v_two a b la lb c F l w p q y }
+    pub built_v_two : a < b → b < n → {v : List Step} {f : ℕ} → Recorded t e 4 r b v f → BuiltV n r a b s k v f
+    built_v_two p q y = record { room = omega (arith, w.count, y.count); any = λ m h F c. v_two a b la lb c F l w p q y }
 
 -- a walk that built all lost data, and then every lost U and H
-pub walk_built : {n r : ℕ} {g : List (List ℕ)} {s t v : List ℕ} {k e f : ℕ} (m : List (List ℕ)) (h : List ℕ) (a b : ℕ) → a ≤ b → Fair (drawn m h n r)
+pub walk_built : {n r : ℕ} {g : List (List Bool)} {s t v : List Step} {k e f : ℕ} (m : List (List ℕ)) (h : List ℕ) (a b : ℕ) → a ≤ b → Fair (drawn m h n r)
     → State (drawn m h n r) (pair a b) g s k → ((i j : ℕ) → i < r → j < n → pair a b j ≡ true → Marked g i j)
-    → BuiltV n r a b s k t e → BuiltH n r b t e v f → Walk (drawn m h n r) (pair a b) (written v) f true
-walk_built m h a b la F S all x y = walk_whole (y.any m h a la (x.any m h F (closing_start S all))) y.room
+    → BuiltV n r a b s k t e → BuiltH n r b t e v f → f ≤ 66 → Walk (drawn m h n r) (pair a b) (written v) f true
+walk_built m h a b la F S all x y l = walk_whole (y.any m h a la (x.any m h F (closing_start S all))) l

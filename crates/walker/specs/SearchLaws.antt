@@ -1,69 +1,44 @@
 -- From flags in hand to the element that a row or a diagonal gives, or that it gives none. Assumes nothing.
-use Rattle.std.specs.Prelude.{ℕ, ◌+◌, ◌<◌, ◌≤◌, ◌≡◌, refl, List, Bool, true, false, ◌≢◌, ◌⊎◌, eqb}
-use Rattle.std.proofs.Common.{sym, ap, ◌∙◌, subst, inl, inr, arith, eqb-true}
+use Rattle.std.specs.Prelude.{ℕ, suc, ◌+◌, ◌<◌, ◌≤◌, ◌≡◌, refl, List, [], ◌∷◌, Bool, true, false, ◌≢◌, ◌⊎◌, not, ◌&&◌, length, get_or, take}
+use Rattle.std.proofs.Common.{sym, ap, ◌∙◌, subst, inl, inr, arith}
 use Rattle.std.proofs.Math.Decide.{ℕ_discrete, dec_lt}
-use Rattle.std.proofs.lemmas.Bool.{eqb-false}
+use Rattle.std.proofs.lemmas.Bool.{not-true, not-false}
+use Rattle.std.proofs.lemmas.List.{get_or-take}
+use Rattle.std.proofs.lemmas.List.Sums.{AllPass-from_list_all}
+use Rattle.std.specs.List.{list_all}
 use Rattle.code.specs.SumLaws.{clash}
 use Rattle.code.specs.Layout.{Layout, Fair, pair}
 use Rattle.code.specs.LayoutLaws.{pair_left, pair_right, pair_no, pair_yes}
-use Rattle.code.specs.Drawn.{cell}
-use Rattle.code.specs.Live.{Line, row, diagonal, Lone}
+use Rattle.code.specs.Live.{row, diagonal, Lone}
 use Rattle.code.specs.LiveLaws.{known_of, Unknown, two_unknown}
-use Rattle.walker.specs.declared.find.Found.TheVariants.{At, Nothing}
-use Rattle.walker.specs.Flags.{Marked, unset, is_set}
-use Rattle.walker.specs.Search.{OpenAt, Passed, NextAt, NextOn, FoundOn}
-
--- ---- answers
-
-apart : {A : Type 0} {i j : ℕ} → At i j ≡ Nothing → A
-apart e = absurd (let z : ◌≡◌ {A = ℕ} 0 1 = cc in omega arith)
-
-pub next_at : {D : ℕ → ℕ → ℕ} {n r : ℕ} {lost : ℕ → Bool} {g : List (List ℕ)} {d from i j : ℕ}
-    → NextAt D n r lost g d from i j → NextOn D n r lost g d from (At i j)
-next_at {D} {n} {r} {lost} {g} {d} {from} {i} {j} x = record { at = λ h l e. go h l (cc) (cc); nothing = λ e. apart e }
-  where
-    go : (h l : ℕ) → i ≡ h → j ≡ l → NextAt D n r lost g d from h l
-    go h l p q = subst (λ (y : ℕ). NextAt D n r lost g d from h y) q (subst (λ (y : ℕ). NextAt D n r lost g d from y j) p x)
-
-pub next_nothing : {D : ℕ → ℕ → ℕ} {n r : ℕ} {lost : ℕ → Bool} {g : List (List ℕ)} {d from : ℕ}
-    → Passed D n lost g d from r → NextOn D n r lost g d from Nothing
-next_nothing x = record { at = λ h l e. apart (sym e); nothing = λ e. x }
-
-pub found_at : {L : Layout} {lost : ℕ → Bool} {g : List (List ℕ)} {K : Line} {i j : ℕ} → Lone L lost (Marked g) K i j → FoundOn L lost g K (At i j)
-found_at {L} {lost} {g} {K} {i} {j} x = record { at = λ h l e. go h l (cc) (cc); nothing = λ e. apart e }
-  where
-    go : (h l : ℕ) → i ≡ h → j ≡ l → Lone L lost (Marked g) K h l
-    go h l p q = subst (λ (y : ℕ). Lone L lost (Marked g) K h y) q (subst (λ (y : ℕ). Lone L lost (Marked g) K y j) p x)
-
-pub found_nothing : {L : Layout} {lost : ℕ → Bool} {g : List (List ℕ)} {K : Line}
-    → ((i j : ℕ) → Lone L lost (Marked g) K i j → ⊥) → FoundOn L lost g K Nothing
-found_nothing x = record { at = λ h l e. apart (sym e); nothing = λ e. x }
+use Rattle.walker.specs.Flags.{flag, Marked, unset, is_set}
+use Rattle.walker.specs.Search.{OpenAt, Passed, NextAt, Gap, StripBuilt}
 
 -- ---- an element is tested
 
-module _ {D : ℕ → ℕ → ℕ} {n : ℕ} {g : List (List ℕ)} {c d i : ℕ} where
+module _ {D : ℕ → ℕ → ℕ} {n : ℕ} {g : List (List Bool)} {c d i : ℕ} where
   pub open_no : (c < n → D i c ≡ d → ⊥) → OpenAt D n g c d i false
   open_no h = record { below = λ e. clash e; on = λ e. clash e; new = λ e. clash e; shut = λ e l o. absurd (h l o) }
 
-  pub open_test : c < n → D i c ≡ d → (x : ℕ) → x ≡ cell g i c → OpenAt D n g c d i (eqb x 0)
-  open_test l o x e =
+  pub open_test : c < n → D i c ≡ d → OpenAt D n g c d i (not (flag g i c))
+  open_test l o =
       record {
         below = λ t. l;
         on = λ t. o;
-        new = λ t. unset e (eqb-true x 0 t);
-        shut = λ t k p. is_set e (eqb-false x 0 t);
+        new = λ t. unset (not-true _ t);
+        shut = λ t k p. is_set (not-false _ t);
       }
 
 -- ---- rows passed
 
-module _ {D : ℕ → ℕ → ℕ} {n : ℕ} {lost : ℕ → Bool} {g : List (List ℕ)} {d from : ℕ} where
+module _ {D : ℕ → ℕ → ℕ} {n : ℕ} {lost : ℕ → Bool} {g : List (List Bool)} {d from : ℕ} where
   pub passed_none : Passed D n lost g d from from
   passed_none = record { marked = λ i j l h. absurd (omega arith) }
 
   pub passed_end : {i r : ℕ} → r ≤ i → Passed D n lost g d from i → Passed D n lost g d from r
   passed_end lr x = record { marked = λ h l lh li. x.marked h l lh (omega arith) }
 
-module _ {D : ℕ → ℕ → ℕ} {n : ℕ} {g : List (List ℕ)} {d from i : ℕ} (a b : ℕ) (x : Passed D n (pair a b) g d from i) where
+module _ {D : ℕ → ℕ → ℕ} {n : ℕ} {g : List (List Bool)} {d from i : ℕ} (a b : ℕ) (x : Passed D n (pair a b) g d from i) where
   pub passed_more : {t u : Bool} → OpenAt D n g a d i t → t ≡ false → OpenAt D n g b d i u → u ≡ false → Passed D n (pair a b) g d from (i + 1)
   passed_more p et q eu = record { marked = λ h l lh li ll e o. go h l lh li ll e o (ℕ_discrete h i) }
     where
@@ -94,7 +69,7 @@ on_lost a b e (inr z) = ap (pair a b) (sym e ∙ z) ∙ pair_right a b
 pub on_kept : (a b : ℕ) {x y : ℕ} → y ≡ x → y ≢ a → y ≢ b → pair a b x ≡ false
 on_kept a b {x} e na nb = pair_no a b x (λ z. na (e ∙ z)) (λ z. nb (e ∙ z))
 
-module _ {L : Layout} {lost : ℕ → Bool} {g : List (List ℕ)} {d : ℕ} where
+module _ {L : Layout} {lost : ℕ → Bool} {g : List (List Bool)} {d : ℕ} where
   pub diagonal_dead : lost (L.home d) ≡ true → (h l : ℕ) → Lone L lost (Marked g) (diagonal d) h l → ⊥
   diagonal_dead e h l x = clash (sym x.live ∙ e)
 
@@ -141,7 +116,7 @@ module _ {L : Layout} {lost : ℕ → Bool} {g : List (List ℕ)} {d : ℕ} wher
 
 -- ---- a row
 
-module _ {L : Layout} {g : List (List ℕ)} {i : ℕ} (a b : ℕ) where
+module _ {L : Layout} {g : List (List Bool)} {i : ℕ} (a b : ℕ) where
   pub row_dead : b ≡ L.n → (h l : ℕ) → Lone L (pair a b) (Marked g) (row i) h l → ⊥
   row_dead e h l x = clash (sym x.live ∙ ap (pair a b) (sym e) ∙ pair_right a b)
 
@@ -196,3 +171,38 @@ module _ {L : Layout} {g : List (List ℕ)} {i : ℕ} (a b : ℕ) where
         go : (l ≡ a) ⊎ (l ≡ b) → Marked g i l
         go (inl e) = subst (λ (y : ℕ). Marked g i y) (sym e) p
         go (inr e) = subst (λ (y : ℕ). Marked g i y) (sym e) q
+
+-- ---- a strip
+
+-- an element that the test fails
+fails_at : {X : Type 0} (p : X → Bool) (xs : List X) (d : X) → list_all p xs ≡ false → (i : ℕ) × (i < length xs) × (p (get_or xs i d) ≡ false)
+fails_at p [] d e = clash (sym e)
+fails_at {X} p (x ∷ xs) d e = go (p x) refl (fails_at p xs d)
+  where
+    go : (t : Bool) → p x ≡ t → (list_all p xs ≡ false → (i : ℕ) × (i < length xs) × (p (get_or xs i d) ≡ false))
+        → (i : ℕ) × (i < length (x ∷ xs)) × (p (get_or (x ∷ xs) i d) ≡ false)
+    go false q rest = (0, omega arith, q)
+    go true q rest = later (rest (sym (ap (λ (t : Bool). t && list_all p xs) q) ∙ e))
+      where
+        later : (i : ℕ) × (i < length xs) × (p (get_or xs i d) ≡ false) → (i : ℕ) × (i < length (x ∷ xs)) × (p (get_or (x ∷ xs) i d) ≡ false)
+        later f = (suc f.0, omega (arith, f.1), f.2)
+
+-- each of the first r rows is asked for its flag
+pub strip_all : {n r c : ℕ} {g : List (List Bool)} {t : Bool} → c < n → length (take r g) ≡ r
+    → t ≡ list_all (λ (x : List Bool). get_or x c false) (take r g) → StripBuilt n r g c t
+strip_all {n} {r} {c} {g} {t} lc z e =
+    record {
+      all = λ q l i li. is_set (sym (there i li) ∙ AllPass-from_list_all at (take r g) (sym e ∙ q) i [] (omega arith));
+      some = λ q. left (fails_at at (take r g) [] (sym e ∙ q));
+    }
+  where
+    at : List Bool → Bool
+    at x = get_or x c false
+
+    there : (i : ℕ) → i < r → at (get_or (take r g) i []) ≡ flag g i c
+    there i li = ap at (get_or-take r g i [] li)
+
+    left : (i : ℕ) × (i < length (take r g)) × (at (get_or (take r g) i []) ≡ false) → Gap n r g c
+    left f =
+        let l : f.0 < r = omega (arith, f.1) in
+        record { row = f.0; row_below = l; strip_below = lc; new = unset (sym (there f.0 l) ∙ f.2) }

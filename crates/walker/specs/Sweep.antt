@@ -1,5 +1,5 @@
 -- The sweep over all lines: those passed give nothing, and stay so while later chains are followed. Assumes nothing.
-use Rattle.std.specs.Prelude.{ℕ, ◌+◌, ◌<◌, ◌≤◌, ◌≡◌, List, Bool, true, false, length}
+use Rattle.std.specs.Prelude.{ℕ, ◌+◌, ◌<◌, ◌≤◌, ◌≡◌, List, Bool, true, false}
 use Rattle.std.proofs.Common.{sym, subst, arith}
 use Rattle.std.proofs.Math.Decide.{ℕ_discrete}
 use Rattle.code.specs.SumLaws.{clash}
@@ -9,13 +9,14 @@ use Rattle.code.specs.Live.{Line, row, diagonal, Lone, Finished}
 use Rattle.code.specs.LiveLaws.{lone_ext}
 use Rattle.code.specs.Steps.{BuiltAt}
 use Rattle.code.specs.Walk.{Walk}
+use Rattle.walker.specs.declared.plan.Step.{Step}
 use Rattle.walker.specs.Flags.{Marked, clear, clear_board, clear_unmarked, unknowns_most, unknowns_strip}
 use Rattle.walker.specs.Written.{written}
 use Rattle.walker.specs.Search.{Case, Gap}
 use Rattle.walker.specs.Chain.{State, Stepped}
 
 -- the first x rows and the first d diagonals give nothing
-pub record Swept (L : Layout) (lost : ℕ → Bool) (g : List (List ℕ)) (s : List ℕ) (k x d : ℕ) : Type 0 where
+pub record Swept (L : Layout) (lost : ℕ → Bool) (g : List (List Bool)) (s : List Step) (k x d : ℕ) : Type 0 where
   pub state : State L lost g s k
   pub no_row : (v : ℕ) → v < x → (i j : ℕ) → Lone L lost (Marked g) (row v) i j → ⊥
   pub no_diagonal : (v : ℕ) → v < d → (i j : ℕ) → Lone L lost (Marked g) (diagonal v) i j → ⊥
@@ -23,23 +24,22 @@ pub record Swept (L : Layout) (lost : ℕ → Bool) (g : List (List ℕ)) (s : L
 -- ---- laws
 
 -- nothing is built yet
-pub begin : (L : Layout) (a b : ℕ) → Case L.n L.r a b → {s : List ℕ} → length s ≡ 198 → State L (pair a b) clear s 0
-begin L a b c z =
+pub begin : (L : Layout) (a b : ℕ) → Case L.n L.r a b → (s : List Step) (k : ℕ) → k ≡ 0 → State L (pair a b) clear s k
+begin L a b c s k z =
     record {
       board = clear_board L c.rows c.strips;
-      size = z;
-      room = omega (arith, unknowns_most L a b clear, c.rows);
-      right = record { right = λ u l. absurd (omega arith) };
+      room = omega (arith, unknowns_most L a b clear, c.rows, z);
+      right = record { right = λ u l. absurd (omega (arith, l, z)) };
       inside = λ i j m. absurd (clear_unmarked i j m);
       to = λ i j m. absurd (clear_unmarked i j m);
       from = λ i j b. absurd (early b.early);
     }
   where
-    early : {u : ℕ} → u < 0 → ⊥
-    early l = omega arith
+    early : {u : ℕ} → u < k → ⊥
+    early l = omega (arith, z)
 
 -- where strip n is lost its elements have room too
-pub h_room : (L : Layout) (a b : ℕ) {g : List (List ℕ)} {s : List ℕ} {k : ℕ} → State L (pair a b) g s k → b ≡ L.n → k + L.r ≤ 64
+pub h_room : (L : Layout) (a b : ℕ) {g : List (List Bool)} {s : List Step} {k : ℕ} → State L (pair a b) g s k → b ≡ L.n → k + L.r ≤ 64
 h_room L a b {g} S e =
     omega (
       arith,
@@ -50,11 +50,11 @@ h_room L a b {g} S e =
     past : L.n < L.n → ⊥
     past l = omega arith
 
-module _ {L : Layout} {lost : ℕ → Bool} {g : List (List ℕ)} {s : List ℕ} {k : ℕ} where
+module _ {L : Layout} {lost : ℕ → Bool} {g : List (List Bool)} {s : List Step} {k : ℕ} where
   pub swept_none : State L lost g s k → Swept L lost g s k 0 0
   swept_none S = record { state = S; no_row = λ v l. absurd (omega arith); no_diagonal = λ v l. absurd (omega arith) }
 
-  module _ {x d : ℕ} (w : Swept L lost g s k x d) {f : List (List ℕ)} {t : List ℕ} {e : ℕ} where
+  module _ {x d : ℕ} (w : Swept L lost g s k x d) {f : List (List Bool)} {t : List Step} {e : ℕ} where
     pub row_passed : Stepped L lost (row x) g f t e → Swept L lost f t e (x + 1) d
     row_passed z =
         record {

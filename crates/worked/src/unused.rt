@@ -1,36 +1,32 @@
 // The lines that no step of the plan uses, told from the walker's steps alone.
-ghost use Rattle.std.specs.Prelude.{ℕ, ◌+◌, ◌<◌, ◌≤◌};
-ghost use Rattle.walker.specs.Written.{step, written};
+ghost use Rattle.std.specs.Prelude.{ℕ, ◌<◌, ◌≤◌};
+ghost use Rattle.walker.specs.Written.{read, written};
 ghost use Rattle.rebuild.specs.Stepping.{Shaped};
 
 use shape::Shape;
+use walker::{Kind, Plan, Step};
 
-// The line that the step (kind, row, strip) uses: kind 2 its diagonal, kind 4 the diagonal whose U the strip stores, the rest their row.
-fn line_of(shape: Shape, kind: u8, row: usize, strip: usize) -> usize
-    requires shaped { Shaped shape.n shape.r (step kind row strip) }
+// The line that a step uses: its row, its diagonal, or the diagonal whose U the strip stores.
+// It does not ask rebuild, whose marks it is there to check.
+fn line_of(shape: Shape, step: Step) -> usize
+    requires shaped { Shaped shape.n shape.r (read step) }
     ensures { result < 64 }
 {
-    if kind == 2 {
-        return shape.r + shape.diagonal(row, strip);
+    let Step { kind, row, strip } = step;
+    match kind {
+        Kind::ByRow | Kind::H => row,
+        Kind::ByDiagonal => shape.r + shape.diagonal(row, strip),
+        Kind::U => shape.r + strip,
     }
-    if kind == 4 {
-        return shape.r + strip;
-    }
-    row
 }
 
-// Marks the lines that the first count of the steps use.
-fn mark(shape: Shape, steps: &[u8; 198], count: usize) -> [u8; 64]
-    requires steps { (count ≤ 66) × ((u : ℕ) → u < count → Shaped shape.n shape.r (written steps.now u)) }
+// Marks the lines that the steps of a plan use.
+fn mark(shape: Shape, plan: &Plan) -> [u8; 64]
+    requires steps { (u : ℕ) → u < plan.now.count → Shaped shape.n shape.r (written plan.now.steps u) }
 {
     let mut used = [0u8; 64];
-    let mut k: usize = 0;
-    while k < count {
-        let row = walker::wide(steps[k * 3 + 1]);
-        let strip = walker::wide(steps[k * 3 + 2]);
-        let t = line_of(shape, steps[k * 3], row, strip);
-        used[t] = 1;
-        k += 1;
+    for step in plan.steps() {
+        used[line_of(shape, *step)] = 1;
     }
     used
 }
@@ -41,9 +37,8 @@ pub(crate) fn used_lines(shape: Shape, a: usize, b: usize) -> [u8; 64]
 {
     let map = shape::map::map_of(shape);
     let home = shape::map::homes();
-    let mut steps = [0u8; 198];
-    let walked = walker::walk(&map, &home, shape.n, shape.r, a, b, &mut steps);
-    mark(shape, &steps, walked.count)
+    let plan = walker::walk(&map, &home, shape.n, shape.r, a, b).plan;
+    mark(shape, &plan)
 }
 
 // Whether place p is the parity of a line that is not marked.

@@ -4,7 +4,7 @@ use Rattle.walker.specs.Closing.{WrittenH}
 use Rattle.walker.proofs.build_h.Given as goal
 
 abbrev pub invariant-loop-h : goal.invariant-loop-h
-invariant-loop-h l = (l.h ≤ l.r) × WrittenH l.n l.r l.b l.initial.steps l.k l.steps l.h
+invariant-loop-h l = (l.h ≤ l.r) × WrittenH l.n l.r l.b l.initial.plan.steps l.initial.plan.count l.plan.steps l.plan.count l.h
 
 abbrev pub decreases-loop-h : goal.decreases-loop-h
 decreases-loop-h l = l.r - l.h

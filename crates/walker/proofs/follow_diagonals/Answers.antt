@@ -7,13 +7,13 @@ pub loop-d-init : goal.loop-d-init
 loop-d-init c =
     (omega arith, c.requires.2)
 
-pub diag_step-k-requires : goal.diag_step-k-requires
-diag_step-k-requires c =
+pub diag_step-requires : goal.diag_step-requires
+diag_step-requires c =
     (c.requires.0, c.requires.1, c.loop-d-test.true, c.loop-d.invariant.1.state)
 
 pub loop-d-preserved : goal.loop-d-preserved
 loop-d-preserved c =
-    (omega arith, diagonal_passed c.loop-d.invariant.1 c.diag_step-k.ensures)
+    (omega arith, diagonal_passed c.loop-d.invariant.1 c.diag_step.ensures)
 
 pub returns : goal.returns
 returns c =

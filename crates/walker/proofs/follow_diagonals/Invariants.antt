@@ -6,7 +6,7 @@ use Rattle.walker.specs.Sweep.{Swept}
 use Rattle.walker.proofs.follow_diagonals.Given as goal
 
 abbrev pub invariant-loop-d : goal.invariant-loop-d
-invariant-loop-d l = (l.d ≤ l.n) × Swept (drawn l.map l.home l.n l.r) (pair l.a l.b) l.built l.steps l.k l.r l.d
+invariant-loop-d l = (l.d ≤ l.n) × Swept (drawn l.map l.home l.n l.r) (pair l.a l.b) l.built l.plan.steps l.plan.count l.r l.d
 
 abbrev pub decreases-loop-d : goal.decreases-loop-d
 decreases-loop-d l = l.n - l.d

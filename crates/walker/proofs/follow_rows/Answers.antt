@@ -7,13 +7,13 @@ pub loop-i-init : goal.loop-i-init
 loop-i-init c =
     (omega arith, swept_none c.requires.2)
 
-pub row_step-k-requires : goal.row_step-k-requires
-row_step-k-requires c =
+pub row_step-requires : goal.row_step-requires
+row_step-requires c =
     (c.requires.0, c.requires.1, c.loop-i-test.true, c.loop-i.invariant.1.state)
 
 pub loop-i-preserved : goal.loop-i-preserved
 loop-i-preserved c =
-    (omega arith, row_passed c.loop-i.invariant.1 c.row_step-k.ensures)
+    (omega arith, row_passed c.loop-i.invariant.1 c.row_step.ensures)
 
 pub returns : goal.returns
 returns c =

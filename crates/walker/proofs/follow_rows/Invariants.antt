@@ -6,7 +6,7 @@ use Rattle.walker.specs.Sweep.{Swept}
 use Rattle.walker.proofs.follow_rows.Given as goal
 
 abbrev pub invariant-loop-i : goal.invariant-loop-i
-invariant-loop-i l = (l.i ≤ l.r) × Swept (drawn l.map l.home l.n l.r) (pair l.a l.b) l.built l.steps l.k l.i 0
+invariant-loop-i l = (l.i ≤ l.r) × Swept (drawn l.map l.home l.n l.r) (pair l.a l.b) l.built l.plan.steps l.plan.count l.i 0
 
 abbrev pub decreases-loop-i : goal.decreases-loop-i
 decreases-loop-i l = l.r - l.i

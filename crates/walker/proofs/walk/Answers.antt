@@ -1,46 +1,41 @@
 -- `walker::walk` meets its contract: it begins with nothing built, and ends with every line passed. Assumes nothing.
-use Rattle.std.proofs.Common.{arith}
+use Rattle.std.proofs.Common.{arith, refl}
 use Rattle.code.specs.LayoutLaws.{pair_left, pair_right}
 use Rattle.code.specs.Drawn.{drawn}
 use Rattle.walker.specs.Sweep.{begin, h_room, walk_left}
 use Rattle.walker.specs.ClosingLaws.{both_built, walk_built}
 use Rattle.walker.proofs.walk.Goals as goal
+use Rattle.walker.proofs.walk.Goals.{then-not-strip_built-via-then-not-strip_built, then-not-strip_built-via-else-not-strip_built+then-not-strip_built-2}
 
-pub follow_rows-first-requires : goal.follow_rows-first-requires
-follow_rows-first-requires c =
+pub follow_rows-requires : goal.follow_rows-requires
+follow_rows-requires c =
     let L = drawn c.args.map.now c.args.home.now c.args.n c.args.r in
-    (c.requires.0, c.requires.1, begin L c.args.a c.args.b c.requires.0 c.requires.2)
+    (c.requires.0, c.requires.1, begin L c.args.a c.args.b c.requires.0 _ _ c.new-plan.ensures)
 
-pub build_v-more-requires : goal.build_v-more-requires
-build_v-more-requires c =
-    let swept = c.follow_diagonals-data.ensures in
-    (c.requires.0, omega (arith, swept.state.room), swept.state.size)
+pub build_v-requires : goal.build_v-requires
+build_v-requires c =
+    (c.requires.0, omega (arith, c.follow_diagonals.ensures.state.room))
 
-pub build_h-count-requires : goal.build_h-count-requires
-build_h-count-requires c =
-    let swept = c.follow_diagonals-data.ensures in
+pub build_h-requires : goal.build_h-requires
+build_h-requires c =
+    let swept = c.follow_diagonals.ensures in
     let L = drawn c.args.map.now c.args.home.now c.args.n c.args.r in (
-      c.requires.0.strips,
-      c.requires.0.rows,
       c.requires.0.within,
-      omega (arith, c.build_v-more.ensures.room, swept.state.room),
-      λ l. omega (arith, c.build_v-more.ensures.room, h_room L c.args.a c.args.b swept.state (omega arith)),
-      c.build_v-more.ensures.size,
+      λ l. omega (arith, c.build_v.ensures.room, h_room L c.args.a c.args.b swept.state (omega arith)),
     )
 
-pub returns-then-strip_built-2 : goal.returns-then-strip_built-2
-returns-then-strip_built-2 c =
+pub returns-then-not-strip_built : goal.returns-then-not-strip_built
+returns-then-not-strip_built c =
+    elim c.then-not-strip_built.branch [
+      | then-not-strip_built-via-then-not-strip_built w ↦
+          walk_left c.requires.1 c.follow_diagonals.ensures c.args.a (pair_left c.args.a c.args.b) (c.strip_built.ensures.some w.if-not-strip_built.true)
+      | then-not-strip_built-via-else-not-strip_built+then-not-strip_built-2 w ↦
+          walk_left c.requires.1 c.follow_diagonals.ensures c.args.b (pair_right c.args.a c.args.b) (w.strip_built-else-not-strip_built.ensures.some w.if-not-strip_built-2.true)
+    ]
+
+pub returns : goal.returns
+returns c =
     walk_built c.args.map.now c.args.home.now c.args.a c.args.b c.requires.0.ordered c.requires.1
-    c.follow_diagonals-data.ensures.state
-    (both_built c.args.a c.args.b c.strip_built.ensures c.if-strip_built.true c.strip_built-then-strip_built.ensures c.if-strip_built-2.true)
-    c.build_v-more.ensures c.build_h-count.ensures
-
-pub returns-else-strip_built-2 : goal.returns-else-strip_built-2
-returns-else-strip_built-2 c =
-    walk_left c.requires.1 c.follow_diagonals-data.ensures c.args.b (pair_right c.args.a c.args.b)
-    (c.strip_built-then-strip_built.ensures.some c.if-strip_built-2.false)
-
-pub returns-else-strip_built : goal.returns-else-strip_built
-returns-else-strip_built c =
-    walk_left c.requires.1 c.follow_diagonals-data.ensures c.args.a (pair_left c.args.a c.args.b)
-    (c.strip_built.ensures.some c.if-strip_built.false)
+    c.follow_diagonals.ensures.state
+    (both_built c.args.a c.args.b c.if-not-strip_built.ensures refl c.if-not-strip_built-2.ensures refl)
+    c.build_v.ensures c.build_h.ensures c.build_h.new.plan.room

@@ -1,5 +1,5 @@
 -- `run` meets its contract: on a good shape the walk leaves nothing, and its steps are a right and complete plan. Assumes nothing.
-use Rattle.std.proofs.Common.{arith, refl}
+use Rattle.std.proofs.Common.{arith}
 use Rattle.code.specs.Shift.{shift}
 use Rattle.code.specs.DrawnLaws.{drawn_fair}
 use Rattle.shape.specs.MapLaws.{filled_draws}
@@ -8,20 +8,19 @@ use Rattle.rebuild.specs.SteppingLaws.{walk_shaped}
 use Rattle.rebuild.specs.WholePlan.{whole_plan}
 use Rattle.rebuild.proofs.mending.run.Goals as goal
 
-pub walk-walked-requires : goal.walk-walked-requires
-walk-walked-requires c =
+pub walk-requires : goal.walk-requires
+walk-requires c =
     let l = c.args.shape.limits in
     let fair = limits_fair c.args.shape.n c.args.shape.r c.args.shape.s _ l in (
       record { strips = l.n_high; rows = l.r_high; ordered = omega arith; within = omega arith },
       drawn_fair _ _ (shift c.args.shape.n c.args.shape.r c.args.shape.s) fair
           (filled_draws _ _ c.args.shape.n c.args.shape.r c.args.shape.s l.n_high c.map_of-map.ensures c.homes-home.ensures),
-      refl,
     )
 
 pub run_steps-requires : goal.run_steps-requires
 run_steps-requires c =
     record {
-      steps = (omega (arith, c.walk-walked.ensures.room, c.args.shape.limits.r_high), walk_shaped _ _ _ _ _ c.walk-walked.ensures);
+      steps = walk_shaped _ _ _ _ _ c.walk.ensures;
       size = c.requires.size;
       used = c.requires.used;
     }
@@ -34,7 +33,7 @@ returns c =
       plan = _;
       count = _;
       planned = whole_plan c.args.shape.n c.args.shape.r c.args.shape.s c.args.shape.e l c.requires.good _ _ c.map_of-map.ensures
-          c.homes-home.ensures c.args.a c.args.b c.requires.strips.0 c.requires.strips.1 _ _ _ c.walk-walked.ensures;
+          c.homes-home.ensures c.args.a c.args.b c.requires.strips.0 c.requires.strips.1 _ _ _ c.walk.ensures;
       run = ran.run;
       marks = ran.marks;
     }

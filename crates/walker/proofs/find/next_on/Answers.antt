@@ -1,7 +1,7 @@
 -- `walker::find::next_on` meets its contract: every lost element of the diagonal in the rows passed is flagged. Assumes nothing.
 use Rattle.std.proofs.Common.{arith}
 use Rattle.code.specs.LayoutLaws.{pair_left, pair_right}
-use Rattle.walker.specs.SearchLaws.{next_at, next_nothing, passed_none, passed_end, passed_more, passed_at}
+use Rattle.walker.specs.SearchLaws.{passed_none, passed_end, passed_more, passed_at}
 use Rattle.walker.proofs.find.next_on.Goals as goal
 
 pub loop-i-init : goal.loop-i-init
@@ -12,13 +12,13 @@ pub returns-then-open_at : goal.returns-then-open_at
 returns-then-open_at c =
     let inv = c.loop-i.invariant in
     let a = c.args.a in
-    next_at (passed_at a _ inv.2 a (pair_left a _) inv.0 c.loop-i-test.true c.open_at.ensures c.if-open_at.true)
+    passed_at a _ inv.2 a (pair_left a _) inv.0 c.loop-i-test.true c.open_at.ensures c.if-open_at.true
 
 pub returns-then-open_at-2 : goal.returns-then-open_at-2
 returns-then-open_at-2 c =
     let inv = c.loop-i.invariant in
     let b = c.args.b in
-    next_at (passed_at _ b inv.2 b (pair_right _ b) inv.0 c.loop-i-test.true c.open_at-in-loop-i.ensures c.if-open_at-2.true)
+    passed_at _ b inv.2 b (pair_right _ b) inv.0 c.loop-i-test.true c.open_at-in-loop-i.ensures c.if-open_at-2.true
 
 pub loop-i-preserved : goal.loop-i-preserved
 loop-i-preserved c =
@@ -30,4 +30,4 @@ loop-i-preserved c =
 
 pub returns : goal.returns
 returns c =
-    next_nothing (passed_end (omega arith) c.loop-i.invariant.2)
+    passed_end (omega arith) c.loop-i.invariant.2

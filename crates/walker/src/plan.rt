@@ -1,0 +1,68 @@
+// A plan: the steps that a walk writes down, each of which builds one lost place.
+ghost use Rattle.std.specs.Prelude.{◌≡◌, ◌+◌, ◌<◌, ◌≤◌};
+
+// What a step builds, and by which line.
+#[derive(Clone, Copy)]
+pub enum Kind {
+    // A data element, by its row.
+    ByRow,
+    // A data element, by its diagonal.
+    ByDiagonal,
+    // The H of a row, on strip n.
+    H,
+    // The U that a strip stores, in row r.
+    U,
+}
+
+// The place of row `row` in strip `strip` is built.
+#[derive(Clone, Copy)]
+pub struct Step {
+    pub kind: Kind,
+    pub row: usize,
+    pub strip: usize,
+}
+
+// The first `count` of the steps are written down. Two lost strips have at most 66 places, so no step needs the heap.
+#[derive(Clone, Copy)]
+pub struct Plan {
+    pub steps: [Step; 66],
+    pub count: usize,
+    pub ghost room: { count ≤ 66 },
+}
+
+impl Plan {
+    ghost use Rattle.std.specs.Prelude.{length, take};
+    ghost use Rattle.walker.specs.Written.{number, Recorded};
+
+    // No step is written down.
+    pub(crate) fn new() -> Plan
+        ensures { result.count ≡ 0 }
+    {
+        let none = Step {
+            kind: Kind::ByRow,
+            row: 0,
+            strip: 0,
+        };
+        Plan {
+            steps: [none; 66],
+            count: 0,
+        }
+    }
+
+    // Writes one step more down.
+    pub(crate) fn push(&mut self, kind: Kind, row: usize, strip: usize)
+        requires { self.old.count < 66 }
+        ensures { Recorded self.old.steps self.old.count (number kind) row strip self.new.steps self.new.count }
+    {
+        self.steps[self.count] = Step { kind, row, strip };
+        self.count += 1;
+    }
+
+    // The steps that are written down.
+    pub fn steps(&self) -> &[Step]
+        ensures count { length result.now ≡ self.now.count }
+        ensures steps { result.now ≡ take self.now.count self.now.steps }
+    {
+        &self.steps[..self.count]
+    }
+}
