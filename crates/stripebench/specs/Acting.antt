@@ -1,6 +1,6 @@
 -- WHAT A RECORD DOES, kind by kind: its answer, the shape that is set, and the stripe that is left. Assumes nothing.
 -- b == the record's body, in a buffer of eight bytes    h == the shape that is set    s == its stripe
-use Rattle.std.specs.Prelude.{◌≡◌, ◌≢◌, List, [], ◌∷◌, ℕ, eqb, ltb, length, get_or, take, drop, Option, Some, None, Result, Ok, Err}
+use Rattle.std.specs.Prelude.{◌≡◌, ◌≢◌, List, [], ◌∷◌, ℕ, eqb, ltb, length, get_or, take, drop, Option, Some, None, Result, Err}
 use Rattle.code.specs.Sum.{table, pick}
 use Rattle.code.specs.Below.{count}
 use Rattle.code.specs.Shift.{shift}

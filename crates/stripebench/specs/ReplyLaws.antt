@@ -1,5 +1,5 @@
 -- How an answer of the library becomes a reply. Assumes nothing.
-use Rattle.std.specs.Prelude.{◌≡◌, Bool, ℕ, Result, Ok, Err}
+use Rattle.std.specs.Prelude.{◌≡◌, Bool, ℕ, Ok, Err}
 use Rattle.std.proofs.Common.{sym, ap, ◌∙◌, arith, eq-eqb, ne_eqb}
 use Rattle.code.specs.Sum.{pick}
 use Rattle.shape.specs.declared.refusal.Refusal.{Refusal}

@@ -1,6 +1,6 @@
 -- How a shape is set: a good one that fits makes a stripe of zeros, which is sound; any other changes nothing. Assumes nothing.
 -- b == the body    c == the shape that was set    room, after == the bytes of the room before and after    x == judge's answer
-use Rattle.std.specs.Prelude.{◌≡◌, refl, Bool, true, false, List, ℕ, zero, suc, ◌≤◌, ◌<◌, eqb, ltb, length, get_or, take, Option, Some, Err, Ok}
+use Rattle.std.specs.Prelude.{◌≡◌, refl, Bool, true, false, List, ℕ, zero, suc, ◌≤◌, ◌<◌, ltb, length, get_or, take, Option, Some, Err, Ok}
 use Rattle.std.proofs.Common.{sym, ap, ◌∙◌, subst, zero-add, arith, length-take-le, get_or-take, ext_get_or, eq-eqb, ne_eqb, lt-ltb, le-ltb}
 use Rattle.code.specs.Bound as bound
 use Rattle.code.specs.Sum.{table, pick}

@@ -1,7 +1,7 @@
 // Replies: what a record answers, and the text of it on the record's line, in decimal with single spaces.
-ghost use Rattle.std.specs.Prelude.{◌≡◌};
+ghost use Rattle.std.specs.Prelude.{◌≡◌, Some};
 ghost use Rattle.stripebench.specs.declared.replies.Refused.TheVariants.{Library};
-ghost use Rattle.stripebench.specs.Replies.{refused_number};
+ghost use Rattle.stripebench.specs.Replies.{refused_number, reply_text, refused_text};
 
 use shape::Refusal;
 use std::fmt;
@@ -35,13 +35,15 @@ impl Refused {
 impl From<Refusal> for Refused {
     ghost from_gives = { λ x r. r ≡ Library x };
 
-    fn from(x: Refusal) -> Refused {
-        Refused::Library(x)
+    fn from(x: Refusal) -> Self {
+        Self::Library(x)
     }
 }
 
 // 0 with what comes with it.
 impl fmt::Display for Reply {
+    ghost output = { λ x. Some (reply_text x) };
+
     fn fmt<W: fmt::Write>(&self, f: &mut fmt::Formatter<W>) -> fmt::Result {
         match self {
             Reply::Done => write!(f, "0"),
@@ -53,6 +55,8 @@ impl fmt::Display for Reply {
 
 // The number alone.
 impl fmt::Display for Refused {
+    ghost output = { λ x. Some (refused_text x) };
+
     fn fmt<W: fmt::Write>(&self, f: &mut fmt::Formatter<W>) -> fmt::Result {
         let number = self.number();
         write!(f, "{number}")

@@ -17,10 +17,6 @@ returns-then-lost-gt2-clause-reply c =
     let body : c.from_le_bytes-mask.result ≡ low_first c.args.body.now = c.from_le_bytes-mask.ensures ∙ eight_bytes c.args.body.now (search rules) in
     rebuild_many c.args.shape c.args.body.now c.args.stripe.now c.requires _ body (sym c.above.ensures ∙ search rules) (omega (arith, c.lost_count-lost.ensures.is))
 
-pub ruin-requires : goal.ruin-requires
-ruin-requires c =
-    record { limits = c.requires.limits; lost = (sym c.above.ensures ∙ search rules, omega (arith, c.lost_count-lost.ensures.is)); size = c.requires.size }
-
 pub returns-in-Done : goal.returns-in-Done
 returns-in-Done c =
     let mask = c.from_le_bytes-mask.result in
