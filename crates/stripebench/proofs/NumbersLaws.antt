@@ -10,9 +10,10 @@ none : (l : List ℕ) (k : ℕ) → length l ≡ k → low_first (drop k l) ≡ 
 unfolding low_first
 none l k h = ap (λ (i : ℕ). low_first (drop i l)) (sym h) ∙ ap low_first (drop-length l)
 
--- two bytes of the body, from byte i on
-two_bytes : (b : List ℕ) (i : ℕ) → i + 1 < length b → from_le_bytes w16 (get_or b i 0 ∷ get_or b (i + 1) 0 ∷ []) ≡ low_first (take 2 (drop i b))
-two_bytes b i h = omega (arith, pair, low_first_more l 0 (omega (arith, long)), low_first_more l 1 (omega (arith, long)), none l 2 long, first, second)
+-- two bytes of the body, from byte i on: x is what is read of them, and y is x as a wider number
+pub two_bytes : (b : List ℕ) (i x y : ℕ) → i + 1 < length b → x ≡ from_le_bytes w16 (get_or b i 0 ∷ get_or b (i + 1) 0 ∷ []) → y ≡ x → y ≡ low_first (take 2 (drop i b))
+two_bytes b i x y h p q =
+    omega (arith, p, pair, low_first_more l 0 (omega (arith, long)), low_first_more l 1 (omega (arith, long)), none l 2 long, first, second)
   where
     l : List ℕ
     l = take 2 (drop i b)
@@ -28,10 +29,6 @@ two_bytes b i h = omega (arith, pair, low_first_more l 0 (omega (arith, long)), 
 
     second : get_or (take 2 (drop i b)) 1 0 ≡ get_or b (i + 1) 0
     second = get_or-take 2 (drop i b) 1 0 (omega (arith, long)) ∙ get_or-drop i b 1 0
-
--- so is a number that was widened from what is read of them
-pub read_two : (b : List ℕ) (i x y : ℕ) → i + 1 < length b → x ≡ from_le_bytes w16 (get_or b i 0 ∷ get_or b (i + 1) 0 ∷ []) → y ≡ x → y ≡ low_first (take 2 (drop i b))
-read_two b i x y h p q = q ∙ p ∙ two_bytes b i h
 
 -- the whole body
 pub eight_bytes : (b : List ℕ) → length b ≡ 8 → from_le_bytes w64 b ≡ low_first b

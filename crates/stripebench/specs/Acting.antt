@@ -1,5 +1,6 @@
 -- WHAT A RECORD DOES, kind by kind: its answer, the shape that is set, and the stripe that is left. Assumes nothing.
 -- b == the record's body, in a buffer of eight bytes    h == the shape that is set    s == its stripe
+-- n_in b, r_in b, s_in b, e_in b == the numbers of the shape that b has    size_in b == the bytes of its stripe
 use Rattle.std.specs.Prelude.{◌≡◌, ◌≢◌, List, [], ◌∷◌, ℕ, eqb, ltb, length, get_or, take, drop, Option, Some, None, Result, Err}
 use Rattle.code.specs.Sum.{table, pick}
 use Rattle.code.specs.Below.{count}
@@ -22,6 +23,13 @@ use Rattle.stripebench.specs.Replies.{replied}
 
 -- ---- kind 1: n, r, s, then e in two bytes
 
+-- h is the shape of the four numbers
+pub record ShapeOf (n r s e : ℕ) (h : Shape) : Type 0 where
+  pub strips : h.n ≡ n
+  pub rows : h.r ≡ r
+  pub shift : h.s ≡ s
+  pub element : h.e ≡ e
+
 module _ (b : List ℕ) where
   abbrev pub n_in : ℕ
   n_in = get_or b 0 0
@@ -38,13 +46,6 @@ module _ (b : List ℕ) where
   abbrev pub size_in : ℕ
   size_in = bytes_of n_in r_in e_in
 
-  -- h is the shape of these numbers
-  pub record ShapeIn (h : Shape) : Type 0 where
-    pub strips : h.n ≡ n_in
-    pub rows : h.r ≡ r_in
-    pub shift : h.s ≡ s_in
-    pub element : h.e ≡ e_in
-
   -- 1 to 5, as of a buffer that has the stripe's size; then 6 for a size above 32768
   abbrev pub set_number : ℕ
   set_number = call_number n_in r_in s_in e_in size_in (pick (ltb 32768 size_in) 6 0)
@@ -54,7 +55,7 @@ module _ (b : List ℕ) where
   set_reply = replied set_number (One size_in)
 
   pub record Sets (c d : Option Shape) : Type 0 where
-    pub good : set_number ≡ 0 → (h : Shape) × (d ≡ Some h) × ShapeIn h
+    pub good : set_number ≡ 0 → (h : Shape) × (d ≡ Some h) × ShapeOf n_in r_in s_in e_in h
     pub kept : set_number ≢ 0 → d ≡ c
 
   abbrev pub set_stripe : List ℕ → List ℕ

@@ -19,7 +19,7 @@ use Rattle.shape.specs.Judge.{Judges}
 use Rattle.shape.specs.JudgedCall.{refused_answered, good_limits, good_good, last_number}
 use Rattle.stripebench.specs.declared.replies.Reply.TheVariants.{One}
 use Rattle.stripebench.specs.declared.records.Action.TheVariants.{Judge}
-use Rattle.stripebench.specs.Acting.{n_in, r_in, s_in, e_in, size_in, set_number, ShapeIn, size_of, stripe_of, Acts}
+use Rattle.stripebench.specs.Acting.{n_in, r_in, s_in, e_in, size_in, set_number, ShapeOf, size_of, stripe_of, Acts}
 use Rattle.stripebench.specs.Holding.{Ready, Holds}
 use Rattle.stripebench.specs.ReplyLaws.{replied_done, replied_refused}
 
@@ -135,14 +135,14 @@ module _ (b : List ℕ) (c : Option Shape) (room : List ℕ) where
           set_good =
               record {
                 reply = ap (λ (k : ℕ). Ok (One k)) same ∙ replied_done (set_number b) (One (size_in b)) none;
-                shape = record { good = λ z. (g, refl, shape_in); kept = λ ne. absurd (ne none) };
+                shape = record { good = λ z. (g, refl, numbers); kept = λ ne. absurd (ne none) };
                 stripe =
                     begins ∙ ap zeros (size ∙ same)
                     ∙ sym (ap (λ (u : Bool). pick u (zeros (size_in b)) (stripe_of c room)) (eq-eqb (set_number b) 0 none));
               }
             where
-              shape_in : ShapeIn b g
-              shape_in =
+              numbers : ShapeOf (n_in b) (r_in b) (s_in b) (e_in b) g
+              numbers =
                   record {
                     strips = ap (λ (u : Shape). u.n) (j.good g m q).0;
                     rows = ap (λ (u : Shape). u.r) (j.good g m q).0;

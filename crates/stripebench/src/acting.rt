@@ -68,7 +68,8 @@ impl Room {
     }
 }
 
-// Does what the call says, on the stripe at the start of the bytes.
+// Does what the call says, on the stripe at the start of the bytes. `act` lends them whole: of a field of a struct with a ghost field no part
+// is lent as `&mut` yet.
 fn at_start(call: Call, shape: Shape, body: &[u8; 8], bytes: &mut [u8]) -> Result<Reply, Refusal>
     requires fits { size_of shape ≤ length bytes.old }
     requires ready { Ready shape (take (size_of shape) bytes.old) }

@@ -25,7 +25,7 @@ fn line(rt: &impl Print, kind: u8, answer: Result<Reply, Refused>) -> io::Result
     }
 }
 
-// Reads one record, does what it says and prints its line; a record that ends the run breaks. So does a failed read or write, as an error.
+// Reads one record, does what it says and prints its line. `Break` ends the run, and so does a failed read or write, as an error.
 fn one<R: Read>(rt: &impl Print, input: &mut R, room: &mut Room) -> io::Result<ControlFlow<()>>
     ensures record { IfOk result (λ next. Passes (R.remaining input.old) (R.remaining input.new) room.old next room.new) }
     ensures err { OnErr result (Left (R.remaining input.old) (R.remaining input.new) room.old room.new) }
