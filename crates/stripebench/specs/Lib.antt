@@ -1,7 +1,8 @@
 -- What the contracts of the bench program cite, in reading order.
--- A record: its table, its numbers.
+-- A record: its table, its numbers; the numbers of replies.
 pub mod Records
 pub mod Numbers
+pub mod Replies
 -- Lost strips, ruined before they are rebuilt.
 pub mod Ruin
 pub mod RuinLaws

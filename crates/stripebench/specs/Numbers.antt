@@ -7,11 +7,6 @@ unfoldable pub low_first : List ℕ → ℕ
 low_first [] = 0
 low_first (b ∷ l) = b + 256 * low_first l
 
--- one byte more in front: the number, and that it fits into 64 bits where there are at most 8 bytes
-pub record LowFirst (l : List ℕ) (k x : ℕ) : Type 0 where
-  pub is : x ≡ low_first (drop k l)
-  pub fits : x < 2 ^ 64
-
 -- ---- laws
 
 -- the bytes from k on: byte k, and 256 times those after it

@@ -1,7 +1,7 @@
 -- How a shape is set: a good one that fits makes a stripe of zeros, which is sound; any other changes nothing. Assumes nothing.
--- b == the body    c == the shape that was set    room, after == the room before and after    x == judge's answer
-use Rattle.std.specs.Prelude.{◌≡◌, refl, Bool, true, false, List, ℕ, zero, suc, ◌≤◌, ◌<◌, eqb, ltb, length, get_or, take, drop}
-use Rattle.std.proofs.Common.{sym, ap, ap₂, ◌∙◌, subst, zero-add, arith, length-take-le, get_or-take, ext_get_or, eq-eqb, ne_eqb, lt-ltb, le-ltb}
+-- b == the body    c == the shape that was set    room, after == the bytes of the room before and after    x == judge's answer
+use Rattle.std.specs.Prelude.{◌≡◌, refl, Bool, true, false, List, ℕ, zero, suc, ◌≤◌, ◌<◌, ltb, length, get_or, take, Option, Some, Err, Ok}
+use Rattle.std.proofs.Common.{sym, ap, ◌∙◌, subst, zero-add, arith, length-take-le, get_or-take, ext_get_or, eq-eqb, ne_eqb, lt-ltb, le-ltb}
 use Rattle.code.specs.Bound as bound
 use Rattle.code.specs.Sum.{table, pick}
 use Rattle.code.specs.SumLaws.{sum_to_nil, length_table, get_or_table}
@@ -13,15 +13,13 @@ use Rattle.shape.specs.declared.refusal.Refusal.{Refusal}
 use Rattle.shape.specs.declared.refusal.Refusal.TheVariants.{Length}
 use Rattle.shape.specs.Refusal.{number_of, refusal_some}
 use Rattle.shape.specs.Limits.{Limits}
-use Rattle.shape.specs.Judge.{Judges}
+use Rattle.shape.specs.WithinLaws.{to_numbers}
+use Rattle.shape.specs.Call.{bytes_of}
+use Rattle.shape.specs.Judge.{Judges, Judged}
 use Rattle.shape.specs.JudgedCall.{refused_answered, good_limits, good_good, last_number}
-use Rattle.stripebench.specs.declared.acting.Current.{Current}
-use Rattle.stripebench.specs.declared.acting.Current.TheVariants.{Set}
-use Rattle.stripebench.specs.declared.replies.Reply.{Reply}
-use Rattle.stripebench.specs.declared.replies.Reply.TheVariants.{Refused, One}
+use Rattle.stripebench.specs.declared.replies.Reply.TheVariants.{One}
 use Rattle.stripebench.specs.declared.records.Action.TheVariants.{Judge}
-use Rattle.stripebench.specs.Numbers.{low_first}
-use Rattle.stripebench.specs.Acting.{shape_of, size_of, set_number, stripe_of, Acts}
+use Rattle.stripebench.specs.Acting.{n_in, r_in, s_in, e_in, size_in, set_number, size_of, stripe_of, Acts}
 use Rattle.stripebench.specs.Holding.{Ready, Holds}
 use Rattle.stripebench.specs.ReplyLaws.{replied_done, replied_refused}
 
@@ -36,10 +34,9 @@ zeros_at zero i = refl
 zeros_at (suc m) zero = refl
 zeros_at (suc m) (suc i) = zeros_at m i
 
-zeros_ready : (h : Shape) → Limits h.n h.r h.s h.e → bound.Good h.n h.r h.s → Ready h (zeros (size_of h))
-zeros_ready h l g =
+zeros_ready : (h : Shape) → bound.Good h.n h.r h.s → Ready h (zeros (size_of h))
+zeros_ready h g =
     record {
-      limits = l;
       good = g;
       size = length_table (size_of h) (λ k. 0);
       sound = λ k lk. record {
@@ -62,70 +59,82 @@ filled_zeros m room after l f =
 
 -- ---- judge's answer
 
-module _ (b : List ℕ) (c : Current) (room : List ℕ) (hold : Holds c room) where
+module _ (b : List ℕ) (c : Option Shape) (room : List ℕ) where
   -- a refused shape leaves all as it was
-  unchanged : (y : Refusal) → number_of y ≡ set_number (shape_of b) → (z : Reply) → z ≡ Refused (number_of y)
-      → Acts Judge b c room room (record { current = c; reply = z }) × Holds c room
-  unchanged y q z w = (
-    record {
-      reply = w ∙ replied_refused (set_number (shape_of b)) (One (size_of (shape_of b))) y q;
-      current = sym (ap (λ (t : Bool). pick t (Set (shape_of b) (size_of (shape_of b))) c) no);
-      stripe = sym (ap (λ (t : Bool). pick t (table (size_of (shape_of b)) (λ k. 0)) (stripe_of c room)) no);
-    },
-    hold,
-  )
+  unchanged : (y : Refusal) → number_of y ≡ set_number b → Acts Judge b c room c room (Err (number_of y))
+  unchanged y q =
+      record {
+        reply = replied_refused (set_number b) (One (size_in b)) y q;
+        shape = record { good = λ z. absurd (some z); kept = λ ne. refl };
+        stripe = sym (ap (λ (t : Bool). pick t (table (size_in b) (λ k. 0)) (stripe_of c room)) (ne_eqb (set_number b) 0 some));
+      }
     where
-      no : eqb (set_number (shape_of b)) 0 ≡ false
-      no = ne_eqb (set_number (shape_of b)) 0 (λ z. omega (arith, refusal_some y))
+      some : set_number b ≡ 0 → ⊥
+      some z = omega (arith, refusal_some y)
 
-  module _ (e : ℕ) (p : e ≡ low_first (take 2 (drop 3 b))) (x : Judged) (j : Judges (get_or b 0 0) (get_or b 1 0) (get_or b 2 0) e x) where
-    there : Judges (get_or b 0 0) (get_or b 1 0) (get_or b 2 0) (low_first (take 2 (drop 3 b))) x
-    there = subst (λ (u : ℕ). Judges (get_or b 0 0) (get_or b 1 0) (get_or b 2 0) u x) p j
+  module _ (n r s e : ℕ) (is : (n ≡ n_in b) × (r ≡ r_in b) × (s ≡ s_in b) × (e ≡ e_in b)) (x : Judged) (judges : Judges n r s e x) where
+    j : Judges (n_in b) (r_in b) (s_in b) (e_in b) x
+    j =
+        subst (λ (u : ℕ). Judges u (r_in b) (s_in b) (e_in b) x) is.0
+        (subst (λ (u : ℕ). Judges n u (s_in b) (e_in b) x) is.1
+        (subst (λ (u : ℕ). Judges n r u (e_in b) x) is.2
+        (subst (λ (u : ℕ). Judges n r s u x) is.3 judges)))
 
-    pub set_refused : (y : Refusal) → x ≡ Err y → (z : Reply) → z ≡ Refused (number_of y)
-        → Acts Judge b c room room (record { current = c; reply = z }) × Holds c room
-    set_refused y q z w = unchanged y (refused_answered _ _ _ _ x there y q (size_of (shape_of b)) _).is z w
+    pub set_refused : (y : Refusal) → x ≡ Err y → Acts Judge b c room c room (Err (number_of y))
+    set_refused y q = unchanged y (refused_answered _ _ _ _ x j y q (size_in b) _).is
 
-    module _ (g : Shape) (m : ℕ) (q : x ≡ Ok (g, m)) where
-      number : (t : Bool) → ltb 32768 (size_of (shape_of b)) ≡ t → set_number (shape_of b) ≡ pick t 6 0
+    module _ (hold : Holds c room) (g : Shape) (m : ℕ) (q : x ≡ Ok (g, m)) where
+      limits : Limits (n_in b) (r_in b) (s_in b) (e_in b)
+      limits = good_limits _ _ _ _ x j g m q
+
+      good : bound.Good (n_in b) (r_in b) (s_in b)
+      good = good_good _ _ _ _ x j g m q
+
+      number : (t : Bool) → ltb 32768 (size_in b) ≡ t → set_number b ≡ pick t 6 0
       number t w =
-          last_number _ _ _ _ (good_limits _ _ _ _ x there g m q) (good_good _ _ _ _ x there g m q) (size_of (shape_of b)) (pick (ltb 32768 (size_of (shape_of b))) 6 0) refl
+          last_number _ _ _ _ limits good (size_in b) (pick (ltb 32768 (size_in b)) 6 0) refl
           ∙ ap (λ (u : Bool). pick u 6 0) w
 
-      same : m ≡ size_of (shape_of b)
-      same = (there.good g m q).1
+      same : m ≡ size_in b
+      same = (j.good g m q).1
 
       -- 6: it does not fit
-      pub set_large : length room < m → (z : Reply) → z ≡ Refused (number_of Length) → Acts Judge b c room room (record { current = c; reply = z }) × Holds c room
-      set_large l z w = unchanged Length (sym (number true (lt-ltb 32768 (size_of (shape_of b)) (omega (arith, same, hold.long))))) z w
+      pub set_large : length room < m → Acts Judge b c room c room (Err (number_of Length))
+      set_large l = unchanged Length (sym (number true (lt-ltb 32768 (size_in b) (omega (arith, same, hold.long)))))
 
       -- 0: it is set
-      module _ (l : m ≤ length room) (after : List ℕ) (f : Filled room 0 m (λ k. 0) after) where
-        none : set_number (shape_of b) ≡ 0
-        none = number false (le-ltb 32768 (size_of (shape_of b)) (omega (arith, same, hold.long)))
+      module _ (l : m ≤ length room) where
+        none : set_number b ≡ 0
+        none = number false (le-ltb 32768 (size_in b) (omega (arith, same, hold.long)))
 
-        is_set : eqb (set_number (shape_of b)) 0 ≡ true
-        is_set = eq-eqb (set_number (shape_of b)) 0 none
+        module _ (after : List ℕ) (f : Filled room 0 m (λ k. 0) after) where
+          size : size_of g ≡ m
+          size = to_numbers _ _ _ _ g (j.good g m q).0 (λ n r s e. bytes_of n r e ≡ m) (sym same)
 
-        whole : take m after ≡ zeros (size_of (shape_of b))
-        whole = filled_zeros m room after l f ∙ ap (λ (k : ℕ). zeros k) same
+          begins : take (size_of g) after ≡ zeros (size_of g)
+          begins = ap (λ (k : ℕ). take k after) size ∙ filled_zeros m room after l f ∙ ap zeros (sym size)
 
-        ready : (h : Shape) (k : ℕ) → Set g m ≡ Set h k → (k ≤ 32768) × Ready h (take k after)
-        ready h k w =
-            let shapes : g ≡ h = cc in
-            let sizes : m ≡ k = cc in (
-              omega (arith, hold.long),
-              subst (λ (u : Shape). Ready u (take k after)) (sym (there.good g m q).0 ∙ shapes)
-                  (subst (λ (s : List ℕ). Ready (shape_of b) s) (sym whole ∙ ap (λ (i : ℕ). take i after) sizes)
-                  (zeros_ready (shape_of b) (good_limits _ _ _ _ x there g m q) (good_good _ _ _ _ x there g m q))),
-            )
+          ready : Ready g (take (size_of g) after)
+          ready =
+              subst (λ (s : List ℕ). Ready g s) (sym begins)
+              (zeros_ready g (to_numbers _ _ _ _ g (j.good g m q).0 (λ n r s e. bound.Good n r s) good))
 
-        pub set_done : Acts Judge b c room after (record { current = Set g m; reply = One m }) × Holds (Set g m) after
-        set_done = (
-          record {
-            reply = ap One same ∙ replied_done (set_number (shape_of b)) (One (size_of (shape_of b))) none;
-            current = ap₂ (λ (u : Shape) (k : ℕ). Set u k) (there.good g m q).0 same ∙ sym (ap (λ (t : Bool). pick t (Set (shape_of b) (size_of (shape_of b))) c) is_set);
-            stripe = whole ∙ sym (ap (λ (t : Bool). pick t (zeros (size_of (shape_of b))) (stripe_of c room)) is_set);
-          },
-          record { long = f.long ∙ hold.long; ready = ready },
-        )
+          pub holds_good : Holds (Some g) after
+          holds_good =
+              record {
+                long = f.long ∙ hold.long;
+                ready = λ h w.
+                    let shapes : g ≡ h = cc in
+                    let fits : size_of g ≤ 32768 = omega (arith, size, hold.long) in
+                    subst (λ (u : Shape). (size_of u ≤ 32768) × Ready u (take (size_of u) after)) shapes (fits, ready);
+              }
+
+          pub set_good : Acts Judge b c room (Some g) after (Ok (One m))
+          set_good =
+              record {
+                reply = ap (λ (k : ℕ). Ok (One k)) same ∙ replied_done (set_number b) (One (size_in b)) none;
+                shape = record { good = λ z. (g, refl, (j.good g m q).0); kept = λ ne. absurd (ne none) };
+                stripe =
+                    begins ∙ ap zeros (size ∙ same)
+                    ∙ sym (ap (λ (u : Bool). pick u (zeros (size_in b)) (stripe_of c room)) (eq-eqb (set_number b) 0 none));
+              }

@@ -1,73 +1,77 @@
 // What a record does: it sets a shape, or calls on the stripe of the one that is set.
-ghost use Rattle.std.specs.Prelude.{◌≡◌, length};
-ghost use Rattle.stripebench.specs.Acting.{Acts};
-ghost use Rattle.stripebench.specs.Holding.{Holds};
+ghost use Rattle.std.specs.Prelude.{◌≡◌, ◌≤◌, length, take, None};
+ghost use Rattle.stripebench.specs.Acting.{size_of, Calls, Acts};
+ghost use Rattle.stripebench.specs.Holding.{Ready, Holds, Holds-prop};
+ghost use Rattle.stripebench.specs.Replies.{numbered, refused_number};
+ghost use Rattle.shape.specs.Refusal.{number_of};
 
 use crate::calling::on_stripe;
-use crate::numbers::low_first;
-use crate::records::Action;
-use crate::replies::{Reply, refused};
+use crate::records::{Action, Call};
+use crate::replies::{Refused, Reply};
 use rebuild::clearing::fill;
-use shape::{Judged, Refusal, Shape};
+use shape::{Refusal, Shape};
 
-// The shape that is set, with the bytes of its stripe, which stands at the start of the room.
-#[derive(Clone, Copy)]
-pub enum Current {
-    Unset,
-    Set(Shape, usize),
+// The shape that is set, and the bytes at whose start its stripe stands.
+#[derive(Drop)]
+pub struct Room {
+    pub shape: Option<Shape>,
+    pub bytes: [u8; 32768],
+    ghost holds: { Holds shape bytes } by { Holds-prop shape bytes },
 }
 
-#[derive(Clone, Copy)]
-pub struct Acted {
-    pub current: Current,
-    pub reply: Reply,
-}
-
-// Sets a good shape that fits the room, with a stripe of zeros; another one changes nothing.
-fn judge(body: &[u8], current: Current, room: &mut [u8]) -> Acted
-    requires body_len { length body.now ≡ 8 }
-    requires holds { Holds current room.old }
-    ensures acts { Acts Action.Judge body.now current room.old room.new result }
-    ensures holds_2 { Holds result.current room.new }
-{
-    let e = low_first(&body[3..5]) as usize;
-    match shape::judge(body[0] as usize, body[1] as usize, body[2] as usize, e) {
-        Judged::Good(shape, size) => {
-            if room.len() < size {
-                let reply = refused(Refusal::Length);
-                return Acted { current, reply };
-            }
-            fill(room, 0, size, 0);
-            Acted {
-                current: Current::Set(shape, size),
-                reply: Reply::One(size as u64),
-            }
+impl Room {
+    // No shape is set.
+    pub fn new() -> Self
+        ensures { result.shape ≡ None }
+    {
+        Room {
+            shape: None,
+            bytes: [0; 32768],
         }
-        Judged::Refused(x) => {
-            let reply = refused(x);
-            Acted { current, reply }
+    }
+
+    // Sets a good shape that fits, with a stripe of zeros; another one changes nothing.
+    fn judge(&mut self, body: &[u8; 8]) -> Result<Reply, Refusal>
+        ensures { Acts Action.Judge body.now self.old.shape self.old.bytes self.new.shape self.new.bytes (numbered number_of result) }
+    {
+        let [n, r, s, low, high, ..] = *body;
+        let e = u16::from_le_bytes([low, high]);
+        let (shape, size) = shape::judge(
+            usize::from(n),
+            usize::from(r),
+            usize::from(s),
+            usize::from(e),
+        )?;
+        if self.bytes.len() < size {
+            return Err(Refusal::Length);
+        }
+        fill(&mut self.bytes, 0, size, 0);
+        self.shape = Some(shape);
+        Ok(Reply::One(size as u64))
+    }
+
+    // Does what a record of this action and body says. Without a shape every call on the stripe is refused.
+    pub fn act(&mut self, action: Action, body: &[u8; 8]) -> Result<Reply, Refused>
+        ensures { Acts action body.now self.old.shape self.old.bytes self.new.shape self.new.bytes (numbered refused_number result) }
+    {
+        match action {
+            Action::Judge => Ok(self.judge(body)?),
+            Action::Stripe(call) => {
+                let shape = self.shape.ok_or(Refused::NoShape)?;
+                Ok(at_start(call, shape, body, &mut self.bytes)?)
+            }
         }
     }
 }
 
-// Does what a record of this action and body says. Without a shape every call on the stripe is refused.
-pub fn act(action: Action, body: &[u8], current: Current, room: &mut [u8]) -> Acted
-    requires body_len { length body.now ≡ 8 }
-    requires holds { Holds current room.old }
-    ensures acts { Acts action body.now current room.old room.new result }
-    ensures holds_2 { Holds result.current room.new }
+// Does what the call says, on the stripe at the start of the bytes. `act` lends them whole: of a field of a struct with a ghost field no part
+// is lent as `&mut` yet.
+fn at_start(call: Call, shape: Shape, body: &[u8; 8], bytes: &mut [u8]) -> Result<Reply, Refusal>
+    requires fits { size_of shape ≤ length bytes.old }
+    requires ready { Ready shape (take (size_of shape) bytes.old) }
+    ensures len { length bytes.new ≡ length bytes.old }
+    ensures calls { Calls call shape body.now (take (size_of shape) bytes.old) (take (size_of shape) bytes.new) (numbered number_of result) }
 {
-    match action {
-        Action::Judge => judge(body, current, room),
-        Action::Stripe(call) => match current {
-            Current::Unset => Acted {
-                current,
-                reply: Reply::Refused(11),
-            },
-            Current::Set(shape, size) => {
-                let reply = on_stripe(call, shape, body, &mut room[..size]);
-                Acted { current, reply }
-            }
-        },
-    }
+    let size = shape.size();
+    on_stripe(call, shape, body, &mut bytes[..size])
 }

@@ -3,8 +3,6 @@
 
 mod acting;
 mod calling;
-mod numbers;
-mod printing;
 mod reading;
 mod records;
 mod replies;
@@ -12,67 +10,55 @@ mod ruining;
 
 ghost use Rattle.std.specs.Prelude.{IfOk, OnErr};
 ghost use Rattle.stripebench.specs.Following.{Left, Passes};
-ghost use Rattle.stripebench.specs.Holding.{Holds, Follows};
 
-use acting::Current;
+use acting::Room;
 use records::Record;
+use replies::{Refused, Reply};
 use std::io::{self, Read};
+use std::ops::ControlFlow;
 
-// What follows a record: the next one, or the end of the run.
-#[derive(Clone, Copy)]
-pub enum Next {
-    Again(Current),
-    End,
+// Prints the line of a record that was read whole.
+fn line(rt: &impl Print, kind: u8, answer: Result<Reply, Refused>) -> io::Result<()> {
+    match answer {
+        Ok(reply) => println!(rt; "{kind} {reply}"),
+        Err(refused) => println!(rt; "{kind} {refused}"),
+    }
 }
 
-// Reads one record, does what it says and prints its line. A failed read or write ends the run, as `End` does.
-fn one<R: Read>(
-    rt: &impl Print,
-    input: &mut R,
-    current: Current,
-    room: &mut [u8],
-) -> io::Result<Next>
-    requires { Holds current room.old }
-    ensures ok { IfOk result (λ next. Follows next room.new) }
-    ensures record { IfOk result (λ next. Passes (R.remaining input.old) (R.remaining input.new) current room.old next room.new) }
-    ensures err { OnErr result (Left (R.remaining input.old) (R.remaining input.new) current room.old room.new) }
+// Reads one record, does what it says and prints its line. `Break` ends the run, and so does a failed read or write, as an error.
+fn one<R: Read>(rt: &impl Print, input: &mut R, room: &mut Room) -> io::Result<ControlFlow<()>>
+    ensures record { IfOk result (λ next. Passes (R.remaining input.old) (R.remaining input.new) room.old next room.new) }
+    ensures err { OnErr result (Left (R.remaining input.old) (R.remaining input.new) room.old room.new) }
 {
     let mut first = [0u8; 1];
     let got = reading::read_full(input, &mut first)?;
     if got < 1 {
-        return Ok(Next::End);
+        return Ok(ControlFlow::Break(()));
     }
     let kind = first[0];
-    let Record::Known(length, action) = records::record_of(kind) else {
-        printing::last_line(rt, b"bad ", kind)?;
-        return Ok(Next::End);
+    let Ok(record) = Record::try_from(kind) else {
+        println!(rt; "bad {kind}")?;
+        return Ok(ControlFlow::Break(()));
     };
+    let length = record.length;
     let mut body = [0u8; 8];
     let whole = reading::read_full(input, &mut body[..length])?;
     if whole < length {
-        printing::last_line(rt, b"cut ", kind)?;
-        return Ok(Next::End);
+        println!(rt; "cut {kind}")?;
+        return Ok(ControlFlow::Break(()));
     }
-    let done = acting::act(action, &body, current, room);
-    let reply = done.reply;
-    let after = done.current;
-    printing::line(rt, kind, reply)?;
-    Ok(Next::Again(after))
+    let answer = room.act(record.action, &body);
+    line(rt, kind, answer)?;
+    Ok(ControlFlow::Continue(()))
 }
 
 fn main(rt: HostRuntime) -> io::Result<()> {
     let mut input = rt.reader();
-    let mut room = [0u8; 32768];
-    let mut current = Current::Unset;
+    let mut room = Room::new();
     // A loop must end: no input has this many records.
     for _ in 0..u64::MAX {
-        match one(&rt, &mut input, current, &mut room)? {
-            Next::Again(after) => {
-                current = after;
-            }
-            Next::End => {
-                break;
-            }
+        if one(&rt, &mut input, &mut room)?.is_break() {
+            break;
         }
     }
     Ok(())

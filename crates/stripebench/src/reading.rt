@@ -1,4 +1,5 @@
-// Reading: a buffer is filled, unless the input ends before.
+// Reading: a buffer is filled, unless the input ends before. A loop of its own, since std's `read_exact` says nothing of an input that ends
+// before, and `one` promises what that leaves (`NoRecord`, `Left`).
 ghost use Rattle.std.specs.Io.KnownBytes.{Consumes, IsAtEnd};
 ghost use Rattle.std.specs.Prelude.{◌≡◌, ◌≤◌, ◌<◌, length, take, IfOk};
 

@@ -1,5 +1,5 @@
 -- What `one` leaves where the line of a record that was done could not be written. Assumes nothing.
-use Rattle.std.proofs.Common.{◌≡◌, List, [], ◌∷◌, ◌++◌, ℕ, slice_index, OnErr, arith, refl, sym, ◌∙◌, ap, subst}
+use Rattle.std.proofs.Common.{◌≡◌, List, [], ◌∷◌, ◌++◌, ℕ, slice_index, OnErr, arith, ◌∙◌, ap, subst}
 use Rattle.std.proofs.KnownBytes.{Consumes-trans}
 use Rattle.std.proofs.lemmas.Grind.{common_steps}
 use Rattle.std.specs.Io.KnownBytes.{Consumes}
@@ -20,16 +20,13 @@ both a b c xs ys kind body p q e f =
 
 pub returns-in_err-line-clause-err : goal.returns-in_err-line-clause-err
 returns-in_err-line-clause-err g c =
-    on_err c.from_residual-in_err-line.result (done _ (record {
+    on_err _ (done (record {
       kind = slice_index c.read_full.new.buffer 0;
-      bytes = _;
-      action = _;
-      kinds = sym c.record_of.ensures ∙ c.in-Known.is;
+      says = c.in-Ok.record;
+      kinds = c.in-Ok.ensures;
       body = _;
       whole = grind (arith, common_steps);
       taken = both _ _ _ _ _ _ _ c.in_ok-got.ensures.bytes c.in_ok-whole.ensures.bytes (grind (arith, common_steps)) (grind (arith, common_steps));
-      acted = _;
-      acts = c.act-done.ensures.acts;
-      sets = refl;
-      holds = c.act-done.ensures.holds_2;
+      answer = c.act-answer.result;
+      acts = c.act-answer.ensures;
     }))

@@ -12,14 +12,14 @@ returns-then-mask-eq0 c =
     let none : c.args.mask ≡ 0 = search rules in
     ruins_none _ _ _ (λ j. ap (λ (m : ℕ). lost_in m j) none ∙ empty_lost j) _
 
-pub ruin_strip-requires : goal.ruin_strip-requires
-ruin_strip-requires c =
+pub ruin_strip-requires-clause-strip : goal.ruin_strip-requires-clause-strip
+ruin_strip-requires-clause-strip c =
     let last = above_last c.args.mask c.args.shape.n _ c.requires.lost.0 c.last_lost-b.ensures in
-    record { strip = omega (arith, first_last (lost_in c.args.mask) _ _ c.first_lost-a.ensures c.last_lost-b.ensures); size = c.requires.size }
+    omega (arith, first_last (lost_in c.args.mask) _ _ c.first_lost-a.ensures c.last_lost-b.ensures)
 
-pub ruin_strip-requires-2 : goal.ruin_strip-requires-2
-ruin_strip-requires-2 c =
-    record { strip = above_last c.args.mask c.args.shape.n _ c.requires.lost.0 c.last_lost-b.ensures; size = c.ruin_strip.ensures.kept.size ∙ c.requires.size }
+pub ruin_strip-requires-2-clause-strip : goal.ruin_strip-requires-2-clause-strip
+ruin_strip-requires-2-clause-strip c =
+    above_last c.args.mask c.args.shape.n _ c.requires.lost.0 c.last_lost-b.ensures
 
 pub returns : goal.returns
 returns c =
