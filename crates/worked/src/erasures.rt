@@ -2,19 +2,24 @@
 // of which each element in turn was damaged. Prints each failure, and what came of all.
 use crate::counts::{Counts, Seen};
 use crate::lost_set::{E, LostSet};
-use crate::trial::Trial;
+use crate::trial::{Trial, fresh};
 use shape::Judged;
 use std::io;
 use std::num::Wrapping;
 
+// The bytes of the largest stripe, n = 9 and r = 5; a larger one would be missed in the totals. Room of a fixed size, since the heap would
+// have this program rest on what is assumed of C's allocator.
+const LARGEST: usize = 177;
+
 // What came of damage to each survivor in turn.
-fn damage_each(rt: &impl Print, lost: LostSet, trial: &mut Trial) -> io::Result<Seen> {
+fn damage_each(rt: &impl Print, trial: &Trial, room: &mut [u8]) -> io::Result<Seen> {
+    let lost = trial.lost;
     let mut seen = Seen::default();
     for p in 0..trial.places() {
         if lost.has_place(p) {
             continue;
         }
-        let came = trial.damaged(p);
+        let came = trial.damaged(p, room);
         let unused = trial.unused_parity(p);
         seen.count(came, unused);
         if came.fails(unused) {
@@ -24,40 +29,41 @@ fn damage_each(rt: &impl Print, lost: LostSet, trial: &mut Trial) -> io::Result<
     Ok(seen)
 }
 
-// Counts what came of a lost set of a stripe of that many bytes.
+// Counts what came of a lost set of a stripe.
 fn lose_set(
-    rt: &(impl Print + AllocGlobal),
+    rt: &impl Print,
     t: &mut Counts,
     lost: LostSet,
-    size: usize,
+    stripe: &mut [u8],
+    room: &mut [u8],
 ) -> io::Result<()> {
-    let mut trial = Trial::new(rt.alloc(), lost, size)?;
-    let back = trial.comes_back();
+    let made = fresh(lost, stripe);
+    let trial = Trial::new(lost, stripe);
+    let back = made && trial.comes_back(room);
     if !back {
         println!(rt; "failure {lost}")?;
     }
-    let seen = damage_each(rt, lost, &mut trial)?;
+    let seen = damage_each(rt, &trial, room)?;
     t.count(back, seen);
     Ok(())
 }
 
 // What came of every lost set of that many strips of the shape, if it is accepted.
-fn of_shape(
-    rt: &(impl Print + AllocGlobal),
-    strips: usize,
-    n: usize,
-    r: usize,
-    s: usize,
-) -> io::Result<Counts> {
+fn of_shape(rt: &impl Print, strips: usize, n: usize, r: usize, s: usize) -> io::Result<Counts> {
     let Judged::Good(shape, size) = shape::judge(n, r, s, E) else {
         return Ok(Counts::default());
     };
+    if LARGEST < size {
+        return Ok(Counts::default());
+    }
     let mut t = Counts::of_shape();
-    for a in 0..n + 1 {
-        for b in a..n + 1 {
+    let mut stripe = [0; LARGEST];
+    let mut room = [0; LARGEST];
+    for a in 0..=n {
+        for b in a..=n {
             let lost = LostSet { shape, a, b };
             if lost.count() == strips {
-                lose_set(rt, &mut t, lost, size)?;
+                lose_set(rt, &mut t, lost, &mut stripe[..size], &mut room[..size])?;
             }
         }
     }
@@ -65,7 +71,7 @@ fn of_shape(
 }
 
 // The lost sets of that many strips of every accepted shape of n.
-fn of_strips(rt: &(impl Print + AllocGlobal), strips: usize, n: usize) -> io::Result<Counts> {
+fn of_strips(rt: &impl Print, strips: usize, n: usize) -> io::Result<Counts> {
     let mut t = Counts::default();
     for r in 0..34 {
         for s in 0..34 {
@@ -76,7 +82,7 @@ fn of_strips(rt: &(impl Print + AllocGlobal), strips: usize, n: usize) -> io::Re
 }
 
 // The lost sets of that many strips, by n and in all; how many failures there were.
-fn by_lost(rt: &(impl Print + AllocGlobal), strips: usize) -> io::Result<Wrapping<u64>> {
+fn by_lost(rt: &impl Print, strips: usize) -> io::Result<Wrapping<u64>> {
     let mut all = Counts::default();
     for n in 3..10 {
         let t = of_strips(rt, strips, n)?;
@@ -88,7 +94,7 @@ fn by_lost(rt: &(impl Print + AllocGlobal), strips: usize) -> io::Result<Wrappin
 }
 
 // What came of every lost set, and how many failures there were.
-pub(crate) fn totals(rt: &(impl Print + AllocGlobal)) -> io::Result<()> {
+pub(crate) fn totals(rt: &impl Print) -> io::Result<()> {
     let failures = by_lost(rt, 1)? + by_lost(rt, 2)?;
     println!(rt; "failures {}", failures.0)
 }

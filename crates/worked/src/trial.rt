@@ -2,8 +2,7 @@
 use crate::lost_set::{E, LostSet};
 use crate::random::Random;
 use crate::unused::{unused_parity, used_lines};
-use shape::{Answer, Refusal};
-use std::alloc::{AllocError, Global};
+use shape::{Answer, Refusal, Shape};
 use stripe::Scrubbed;
 
 // What rebuild makes of damaged survivors: 10 and the lost strips zero; or 0 and a sound stripe, other than the one that was damaged; both with
@@ -26,27 +25,36 @@ impl Damaged {
     }
 }
 
-// A lost set, the lines that its plan uses, marked with 1, a stripe, and the room in which the stripe loses the set and is rebuilt.
-#[derive(Drop)]
-pub(crate) struct Trial {
-    lost: LostSet,
-    used: [u8; 64],
-    stripe: Vec<u8>,
-    room: Vec<u8>,
+// Makes the stripe a sound one, of data that are other ones for each shape and lost set; whether encode answered 0.
+pub(crate) fn fresh(lost: LostSet, stripe: &mut [u8]) -> bool {
+    for (x, y) in stripe.iter_mut().zip(Random::new(lost.seed())) {
+        *x = y;
+    }
+    let Shape { n, r, s, .. } = lost.shape;
+    matches!(stripe::encode(n, r, s, E, stripe), Answer::Done)
 }
 
-impl Trial {
-    // With a stripe of that many bytes, which are other ones for each shape and lost set.
-    pub(crate) fn new(alloc: Global, lost: LostSet, size: usize) -> Result<Self, AllocError> {
-        let stripe: Vec<u8> = Random::new(lost.seed()).take(size).collect(alloc)?;
-        let room = stripe.clone()?;
+// Whether scrub counts no wrong line.
+fn sound(shape: Shape, stripe: &[u8]) -> bool {
+    let Shape { n, r, s, .. } = shape;
+    matches!(
+        stripe::scrub(n, r, s, E, stripe),
+        Scrubbed::Counted(0, 0, _)
+    )
+}
+
+// A lost set, the lines that its plan uses, marked with 1, and a sound stripe, which loses the set and is rebuilt in a room of its length.
+#[derive(Clone, Copy)]
+pub(crate) struct Trial<'a> {
+    pub lost: LostSet,
+    used: [u8; 64],
+    stripe: &'a [u8],
+}
+
+impl<'a> Trial<'a> {
+    pub(crate) fn new(lost: LostSet, stripe: &'a [u8]) -> Self {
         let used = used_lines(lost.shape, lost.a, lost.b);
-        Ok(Trial {
-            lost,
-            used,
-            stripe,
-            room,
-        })
+        Trial { lost, used, stripe }
     }
 
     // The places of the stripe.
@@ -59,47 +67,27 @@ impl Trial {
         unused_parity(self.lost.shape, &self.used, p)
     }
 
-    // Makes the stripe a sound one; whether encode answered 0.
-    fn encode(&mut self) -> bool {
-        let shape = self.lost.shape;
-        matches!(
-            stripe::encode(shape.n, shape.r, shape.s, E, &mut self.stripe),
-            Answer::Done
-        )
-    }
-
     // Loses the set from the stripe with the damage, and rebuilds it in the room.
-    fn rebuild(&mut self, damage: Option<usize>) -> Answer {
-        let lost = self.lost;
-        let shape = lost.shape;
-        lost.lose(&self.stripe, damage, &mut self.room);
-        rebuild::rebuild(shape.n, shape.r, shape.s, E, &mut self.room, lost.mask())
+    fn rebuild(&self, damage: Option<usize>, room: &mut [u8]) -> Answer {
+        let Shape { n, r, s, .. } = self.lost.shape;
+        self.lost.lose(self.stripe, damage, room);
+        rebuild::rebuild(n, r, s, E, room, self.lost.mask())
     }
 
-    // Whether the room is a sound stripe: scrub counts no wrong line.
-    fn sound(&self) -> bool {
-        let shape = self.lost.shape;
-        matches!(
-            stripe::scrub(shape.n, shape.r, shape.s, E, &self.room),
-            Scrubbed::Counted(0, 0, _)
-        )
+    // Whether the stripe comes back from the loss: answer 0, and every byte is the same.
+    pub(crate) fn comes_back(&self, room: &mut [u8]) -> bool {
+        matches!(self.rebuild(None, room), Answer::Done) && self.stripe == &*room
     }
 
-    // Whether the stripe, made a sound one, comes back from the loss: both calls answer 0, and every byte is the same.
-    pub(crate) fn comes_back(&mut self) -> bool {
-        self.encode() && matches!(self.rebuild(None), Answer::Done) && self.stripe == self.room
-    }
-
-    // What rebuild makes of the sound stripe with damage to place p.
-    pub(crate) fn damaged(&mut self, p: usize) -> Damaged {
-        let lost = self.lost;
-        let answer = self.rebuild(Some(p));
-        if !lost.kept(&self.stripe, Some(p), &self.room) {
+    // What rebuild makes of the stripe with damage to place p.
+    pub(crate) fn damaged(&self, p: usize, room: &mut [u8]) -> Damaged {
+        let answer = self.rebuild(Some(p), room);
+        if !self.lost.kept(self.stripe, Some(p), room) {
             return Damaged::Wrong;
         }
         match answer {
-            Answer::Refused(Refusal::NoSound) if lost.cleared(&self.room) => Damaged::Refused,
-            Answer::Done if self.sound() => Damaged::Other,
+            Answer::Refused(Refusal::NoSound) if self.lost.cleared(room) => Damaged::Refused,
+            Answer::Done if sound(self.lost.shape, room) => Damaged::Other,
             _ => Damaged::Wrong,
         }
     }
