@@ -9,8 +9,8 @@ use std::fmt;
 // e, the bytes of an element.
 pub(crate) const E: usize = 3;
 
-// Byte k, which is y, after damage to a place, if any: to one byte of it, which gets another number added for each place, and never 0.
-fn damaged(damage: Option<usize>, k: usize, y: u8) -> u8 {
+// Byte k, which is y, after damage to a place, if any: a number that is not 0, another one for each place, is added to one byte of the place.
+fn changed(damage: Option<usize>, k: usize, y: u8) -> u8 {
     match damage {
         Some(p) if (k / E, k % E) == (p, p % E) => y ^ (p % 255 + 1) as u8,
         _ => y,
@@ -65,7 +65,7 @@ impl LostSet {
             *y = if self.has_place(k / E) {
                 0xff
             } else {
-                damaged(damage, k, x)
+                changed(damage, k, x)
             };
         }
     }
@@ -73,7 +73,7 @@ impl LostSet {
     // Whether the survivors of the room are those of the stripe with the damage.
     pub(crate) fn kept(self, stripe: &[u8], damage: Option<usize>, room: &[u8]) -> bool {
         room.iter().zip(stripe).enumerate().all(|(k, (&y, &x))| self.has_place(k / E)
-            || y == damaged(damage, k, x))
+            || y == changed(damage, k, x))
     }
 
     // Whether every byte of the lost strips is zero.

@@ -17,7 +17,7 @@ impl Display for Hex<'_> {
     }
 }
 
-// What scrub found, in words.
+// What scrub found, in words; a type of its own, since `Finding` is another crate's.
 #[derive(Clone, Copy)]
 pub(crate) struct Found(pub Finding);
 
@@ -33,7 +33,7 @@ impl Display for Found {
     }
 }
 
-// The number of an answer: 0 where the call is done.
+// The number of an answer: 0 where the call is done. No `From`, since neither type is this crate's.
 fn number(answer: Answer) -> u64 {
     match answer {
         Answer::Done => 0,

@@ -54,14 +54,11 @@ pub(crate) fn used_lines(shape: Shape, a: usize, b: usize) -> [u8; 64]
 pub(crate) fn unused_parity(shape: Shape, used: &[u8; 64], p: usize) -> bool
     requires { Limits shape.n shape.r shape.s shape.e }
 {
-    let r = shape.r;
-    let i = p % (r + 1);
-    let j = p / (r + 1);
+    let i = p % (shape.r + 1);
+    let j = p / (shape.r + 1);
     if j < shape.n {
-        if i < r {
-            return false;
-        }
-        return used[r + j] == 0;
+        i == shape.r && used[shape.r + j] == 0
+    } else {
+        used[i] == 0
     }
-    used[i] == 0
 }
