@@ -7,7 +7,7 @@ use Rattle.worked.proofs.unused.line_of.Goals as goal
 
 pub diagonal-requires : goal.diagonal-requires
 diagonal-requires c =
-    let w = two_where _ (limits_fair _ _ _ _ c.args.shape.limits) (step c.args.kind c.args.row c.args.strip) c.requires.shaped (omega arith) in record { place = (w.0, w.1) }
+    let w = two_where _ (limits_fair _ _ _ _ c.args.shape.limits) (step c.args.kind c.args.row c.args.strip) c.requires.shaped (omega arith) in (w.0, w.1)
 
 pub overflow_add-result-then-kind-eq4 : goal.overflow_add-result-then-kind-eq4
 overflow_add-result-then-kind-eq4 c =
