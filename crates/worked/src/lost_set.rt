@@ -16,7 +16,7 @@ fn changed(damage: Option<usize>, k: usize, y: u8) -> u8 {
     }
 }
 
-// The shape's strips a and b are lost, which are one strip where they are the same.
+// The shape's strips a and b are lost, which are one strip where they are the same, as the walker takes them.
 #[derive(Clone, Copy)]
 pub(crate) struct LostSet {
     pub shape: Shape,
