@@ -1,142 +1,112 @@
-// What came of one lost set, and of many, counted and printed.
-use crate::judge_all::part;
-use crate::lost_set::Damaged;
-use std::io;
+// What came of one lost set, and of many, counted and printed. The counts wrap, so that no bound has to be known.
+use crate::trial::Damaged;
+use std::fmt;
+use std::num::Wrapping;
+use std::ops::AddAssign;
 
-// What came of damage to the survivors of one lost set. `unused`: of those refused, the parities of lines that no step uses.
-#[derive(Clone, Copy)]
+// What came of damage to survivors: how many were damaged, those refused, those that another sound stripe agrees with; `unused`: of those
+// refused, the parities of lines that no step uses.
+#[derive(Clone, Copy, Default)]
 pub(crate) struct Seen {
-    survivors: u64,
-    refused: u64,
-    other: u64,
-    unused: u64,
-    pub failures: u64,
+    survivors: Wrapping<u64>,
+    refused: Wrapping<u64>,
+    other: Wrapping<u64>,
+    unused: Wrapping<u64>,
+    failures: Wrapping<u64>,
 }
 
 impl Seen {
-    pub(crate) fn new() -> Self {
-        Self {
-            survivors: 0,
-            refused: 0,
-            other: 0,
-            unused: 0,
-            failures: 0,
-        }
-    }
-
-    // With what came of one survivor counted; `unused` says that it is the parity of a line that no step uses, whose damage must be refused.
-    pub(crate) fn counted(mut self, came: Damaged, unused: bool) -> Self {
-        self.survivors = self.survivors.wrapping_add(1);
+    // Counts what came of one survivor; `unused` says that it is the parity of a line that no step uses.
+    pub(crate) fn count(&mut self, came: Damaged, unused: bool) {
+        self.survivors += 1;
         match came {
             Damaged::Refused => {
-                self.refused = self.refused.wrapping_add(1);
-                if unused {
-                    self.unused = self.unused.wrapping_add(1);
-                }
+                self.refused += 1;
+                self.unused += u64::from(unused);
             }
-            Damaged::Other => {
-                self.other = self.other.wrapping_add(1);
-                if unused {
-                    self.failures = self.failures.wrapping_add(1);
-                }
-            }
-            Damaged::Wrong => {
-                self.failures = self.failures.wrapping_add(1);
-            }
+            Damaged::Other => self.other += 1,
+            Damaged::Wrong => {}
         }
-        self
+        self.failures += u64::from(came.fails(unused));
     }
 }
 
-// Shapes accepted; lost sets, and those that came back; unused lines whose damaged parity was refused, and sets without one (tight);
-// survivors damaged, those refused, those that another sound stripe agrees with; sets where no damage was refused, and where all was.
-#[derive(Clone, Copy)]
-pub(crate) struct Counts {
-    shapes: u64,
-    sets: u64,
-    back: u64,
-    unused: u64,
-    tight: u64,
-    survivors: u64,
-    refused: u64,
-    other: u64,
-    none: u64,
-    all: u64,
-    pub failures: u64,
+impl AddAssign for Seen {
+    fn add_assign(&mut self, other: Self) {
+        self.survivors += other.survivors;
+        self.refused += other.refused;
+        self.other += other.other;
+        self.unused += other.unused;
+        self.failures += other.failures;
+    }
 }
 
-fn one_if(x: bool) -> u64 {
-    if x { 1 } else { 0 }
+// Shapes accepted; lost sets, those that came back, and those without an unused line whose damaged parity was refused (tight); sets where no
+// damage was refused, and where all was; and what came of damage.
+#[derive(Clone, Copy, Default)]
+pub(crate) struct Counts {
+    shapes: Wrapping<u64>,
+    sets: Wrapping<u64>,
+    back: Wrapping<u64>,
+    tight: Wrapping<u64>,
+    none: Wrapping<u64>,
+    all: Wrapping<u64>,
+    seen: Seen,
 }
 
 impl Counts {
-    pub(crate) fn new() -> Self {
-        Self {
-            shapes: 0,
-            sets: 0,
-            back: 0,
-            unused: 0,
-            tight: 0,
-            survivors: 0,
-            refused: 0,
-            other: 0,
-            none: 0,
-            all: 0,
-            failures: 0,
+    // Of one accepted shape, with none of its lost sets yet.
+    pub(crate) fn of_shape() -> Self {
+        Counts {
+            shapes: Wrapping(1),
+            ..Counts::default()
         }
     }
 
-    pub(crate) fn plus(self, t: Counts) -> Self {
-        Self {
-            shapes: self.shapes.wrapping_add(t.shapes),
-            sets: self.sets.wrapping_add(t.sets),
-            back: self.back.wrapping_add(t.back),
-            unused: self.unused.wrapping_add(t.unused),
-            tight: self.tight.wrapping_add(t.tight),
-            survivors: self.survivors.wrapping_add(t.survivors),
-            refused: self.refused.wrapping_add(t.refused),
-            other: self.other.wrapping_add(t.other),
-            none: self.none.wrapping_add(t.none),
-            all: self.all.wrapping_add(t.all),
-            failures: self.failures.wrapping_add(t.failures),
-        }
+    // Counts a lost set: whether it came back, and what came of damage.
+    pub(crate) fn count(&mut self, back: bool, seen: Seen) {
+        self.sets += 1;
+        self.back += u64::from(back);
+        self.tight += u64::from(seen.unused.0 == 0);
+        self.none += u64::from(seen.refused.0 == 0);
+        self.all += u64::from(seen.refused == seen.survivors);
+        self.seen += seen;
+        self.seen.failures += u64::from(!back);
     }
 
-    // With one accepted shape more.
-    pub(crate) fn with_shape(mut self) -> Self {
-        self.shapes = self.shapes.wrapping_add(1);
-        self
+    // How often something came that may not.
+    pub(crate) fn failures(&self) -> Wrapping<u64> {
+        self.seen.failures
     }
+}
 
-    // With one lost set more: whether it came back, and what came of damage.
-    pub(crate) fn with_set(self, back: bool, seen: Seen) -> Self {
-        self.plus(Counts {
-            shapes: 0,
-            sets: 1,
-            back: one_if(back),
-            unused: seen.unused,
-            tight: one_if(seen.unused == 0),
-            survivors: seen.survivors,
-            refused: seen.refused,
-            other: seen.other,
-            none: one_if(seen.refused == 0),
-            all: one_if(seen.refused == seen.survivors),
-            failures: seen.failures.wrapping_add(one_if(!back)),
-        })
+impl AddAssign for Counts {
+    fn add_assign(&mut self, other: Self) {
+        self.shapes += other.shapes;
+        self.sets += other.sets;
+        self.back += other.back;
+        self.tight += other.tight;
+        self.none += other.none;
+        self.all += other.all;
+        self.seen += other.seen;
     }
+}
 
-    // The counts, each after its word, and the end of the line.
-    pub(crate) fn print(self, rt: &impl Print) -> io::Result<()> {
-        part(rt, b" shapes", self.shapes)?;
-        part(rt, b" sets", self.sets)?;
-        part(rt, b" back", self.back)?;
-        part(rt, b" unused", self.unused)?;
-        part(rt, b" tight", self.tight)?;
-        part(rt, b" survivors", self.survivors)?;
-        part(rt, b" refused", self.refused)?;
-        part(rt, b" other", self.other)?;
-        part(rt, b" none", self.none)?;
-        part(rt, b" all", self.all)?;
-        println!(rt)
+// The counts, each after its word.
+impl fmt::Display for Counts {
+    fn fmt<W: fmt::Write>(&self, f: &mut fmt::Formatter<W>) -> fmt::Result {
+        let seen = self.seen;
+        write!(
+            f,
+            "shapes {} sets {} back {}",
+            self.shapes.0, self.sets.0, self.back.0
+        )?;
+        write!(f, " unused {} tight {}", seen.unused.0, self.tight.0)?;
+        write!(
+            f,
+            " survivors {} refused {} other {}",
+            seen.survivors.0, seen.refused.0, seen.other.0
+        )?;
+        write!(f, " none {} all {}", self.none.0, self.all.0)
     }
 }

@@ -5,9 +5,11 @@ mod counts;
 mod erasures;
 mod judge_all;
 mod lost;
-mod lost_bytes;
 mod lost_set;
+mod printing;
+mod random;
 mod small;
+mod trial;
 mod unused;
 
 use std::io;
@@ -18,7 +20,6 @@ fn main(rt: HostRuntime) -> io::Result<()> {
     small::damaged(&rt)?;
     small::refused(&rt)?;
     lost::case_c(&rt)?;
-    lost::case_c_changed(&rt)?;
     lost::three_chains(&rt)?;
     lost::masks(&rt)?;
     judge_all::totals(&rt)?;

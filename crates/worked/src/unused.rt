@@ -42,16 +42,12 @@ pub(crate) fn used_lines(shape: Shape, a: usize, b: usize) -> [u8; 64]
 }
 
 // Whether place p is the parity of a line that is not marked.
-pub(crate) fn unused_parity(shape: Shape, used: &[u8; 64], p: usize) -> bool
-{
-    let r = shape.r;
-    let i = p % (r + 1);
-    let j = p / (r + 1);
+pub(crate) fn unused_parity(shape: Shape, used: &[u8; 64], p: usize) -> bool {
+    let i = p % (shape.r + 1);
+    let j = p / (shape.r + 1);
     if j < shape.n {
-        if i < r {
-            return false;
-        }
-        return used[r + j] == 0;
+        i == shape.r && used[shape.r + j] == 0
+    } else {
+        used[i] == 0
     }
-    used[i] == 0
 }

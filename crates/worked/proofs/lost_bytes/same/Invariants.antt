@@ -1,6 +1,0 @@
--- `worked::lost_bytes::same` ends and reads inside the slices. Assumes nothing.
-use Rattle.std.proofs.Common.{◌-◌, length}
-use Rattle.worked.proofs.lost_bytes.same.Given as goal
-
-abbrev pub decreases-loop-k : goal.decreases-loop-k
-decreases-loop-k l = length l.x - l.k
