@@ -20,9 +20,7 @@ pub fn fill(stripe: &mut [u8], d: usize, m: usize, value: u8)
     requires { d + m ≤ length stripe.old }
     ensures { Filled stripe.old d m (λ k. value) stripe.new }
 {
-    for t in 0..m {
-        stripe[d + t] = value;
-    }
+    stripe[d..d + m].fill(value);
 }
 
 // Every byte of the strip becomes zero; nothing else changes.

@@ -14,11 +14,8 @@ pub fn unused_zero(shape: Shape, stripe: &[u8], used: &[u8; 64]) -> bool
     let m = shape.r + shape.n;
     let mut offs = [0usize; 33];
     for t in 0..m {
-        let unused = used[t] == 0;
-        if unused {
-            if lines::wrong_line(shape, stripe, t, &mut offs) {
-                return false;
-            }
+        if used[t] == 0 && lines::wrong_line(shape, stripe, t, &mut offs) {
+            return false;
         }
     }
     true

@@ -20,11 +20,8 @@ pub(crate) fn encode_shape(shape: Shape, stripe: &mut [u8])
     requires { length stripe.old ≡ bytes_of shape.n shape.r shape.e }
     ensures { EncodedFrom (shift shape.n shape.r shape.s) shape.e stripe.old stripe.new }
 {
-    let last = shape.r + shape.n - 1;
     let mut offs = [0usize; 33];
-    let mut t: usize = 0;
-    while t <= last {
+    for t in 0..shape.r + shape.n {
         lines::build(shape, t, parity_in(shape, t), &mut offs, stripe);
-        t += 1;
     }
 }

@@ -8,21 +8,7 @@ use shape::Shape;
 pub fn outside(shape: Shape, row: usize, strip: usize, offset: usize, len: usize) -> bool
     ensures { result ≡ place_outside shape.n shape.r shape.e row strip offset len }
 {
-    let n = shape.n;
-    let r = shape.r;
-    let e = shape.e;
-    if r <= row {
-        return true;
-    }
-    if n <= strip {
-        return true;
-    }
     // The sum of two numbers can wrap: it is taken where neither is above e.
-    if e < offset {
-        return true;
-    }
-    if e < len {
-        return true;
-    }
-    e < offset + len
+    let e = shape.e;
+    shape.r <= row || shape.n <= strip || e < offset || e < len || e < offset + len
 }

@@ -1,6 +1,6 @@
 -- `write_shape` meets its contract: block after block, each a patch of three places. Assumes nothing.
-use Rattle.std.proofs.Common.{rules, arith, sym, ap, ◌∙◌, ◌≡◌, ◌+◌, ◌≤◌, ℕ, List, ◌++◌, length, drop, length-drop, length-append}
-use Rattle.std.proofs.lemmas.List.{drop-drop}
+use Rattle.std.proofs.Common.{rules, arith, sym, ap, ◌∙◌, ◌≡◌, ◌+◌, ◌-◌, ◌≤◌, ℕ, List, [], ◌++◌, append-nil, length, take, drop, length-drop, length-append}
+use Rattle.std.proofs.lemmas.List.{drop-drop, take_all}
 use Rattle.std.proofs.Math.Seq.{drop-append_seam}
 use Rattle.code.specs.Shift.{shift}
 use Rattle.code.proofs.ShiftLaws.{shift_fair}
@@ -15,9 +15,12 @@ cut_rest c v w z q = sym (drop-append_seam w z) ∙ ap (drop (length w)) (sym q)
 cut_within : (c : ℕ) (v w z : List ℕ) → drop c v ≡ w ++ z → c ≤ length v → c + length w ≤ length v
 cut_within c v w z q l = omega (arith, ap length q, length-append w z, length-drop c v)
 
--- and where nothing is left
-cut_end : (c : ℕ) (v z : List ℕ) → z ≡ drop c v → length z ≡ 0 → c ≤ length v → c ≡ length v
-cut_end c v z q none l = omega (arith, ap length q, length-drop c v)
+-- and where what follows them is its end
+cut_last : (c : ℕ) (v : List ℕ) → drop c v ≡ take (length v - c) (drop c v) ++ []
+cut_last c v = sym (append-nil (take (length v - c) (drop c v)) ∙ take_all (length v - c) (drop c v) (omega (arith, length-drop c v)))
+
+cut_end : (c : ℕ) (v : List ℕ) → c ≤ length v → c + length (take (length v - c) (drop c v)) ≡ length v
+cut_end c v l = omega (arith, ap length (take_all (length v - c) (drop c v) (omega (arith, length-drop c v))), length-drop c v)
 
 pub patch-requires-clause-spots : goal.patch-requires-clause-spots
 patch-requires-clause-spots c =
@@ -39,11 +42,31 @@ loop-block-preserved c =
       patched = patched_more _ _ _ _ _ _ _ _ _ _ _ _ cut (omega arith) inv.patched c.patch.ensures;
     }
 
-pub returns : goal.returns
-returns c =
+pub patch-requires-then-left-clause-spots : goal.patch-requires-then-left-clause-spots
+patch-requires-then-left-clause-spots c =
+    let a = c.args in
+    touches_spots (shift a.shape.n a.shape.r a.shape.s) (shift_fair a.shape.n a.shape.r a.shape.s (omega arith)) a.row a.strip c.requires.place.0 c.requires.place.1
+    a.shape.e _ _ _ c.requires.size c.loop-block.invariant.patched.long c.places-t.ensures
+
+pub returns-then-left : goal.returns-then-left
+returns-then-left c =
     let a = c.args in
     let L = shift a.shape.n a.shape.r a.shape.s in
     let F = shift_fair a.shape.n a.shape.r a.shape.s (omega arith) in
+    let inv = c.loop-block.invariant in
+    let end = cut_end c.loop-block.c a.run.now inv.within in
     patched_written L a.shape.e a.row a.strip a.offset a.run.now a.stripe.now F c.requires.place.0 c.requires.place.1 c.requires.size _
     (touches_patched L F a.row a.strip c.requires.place.0 c.requires.place.1 a.shape.e a.offset (length a.run.now) _ _ _ c.places-t.result c.places-t.ensures
-    (patched_all _ _ _ _ _ _ _ _ _ _ (cut_end _ _ _ c.loop-block.invariant.rest c.in-None.ensures.steps.1.0 c.loop-block.invariant.within) c.loop-block.invariant.patched))
+    (patched_all _ _ _ _ _ _ _ _ _ _ end
+    (patched_more _ _ _ _ _ _ _ _ [] _ _ _ (cut_last c.loop-block.c a.run.now) (omega arith) inv.patched c.patch-then-left.ensures)))
+
+pub returns-else-left : goal.returns-else-left
+returns-else-left c =
+    let a = c.args in
+    let L = shift a.shape.n a.shape.r a.shape.s in
+    let F = shift_fair a.shape.n a.shape.r a.shape.s (omega arith) in
+    let inv = c.loop-block.invariant in
+    let end = cut_end c.loop-block.c a.run.now inv.within in
+    patched_written L a.shape.e a.row a.strip a.offset a.run.now a.stripe.now F c.requires.place.0 c.requires.place.1 c.requires.size _
+    (touches_patched L F a.row a.strip c.requires.place.0 c.requires.place.1 a.shape.e a.offset (length a.run.now) _ _ _ c.places-t.result c.places-t.ensures
+    (patched_all _ _ _ _ _ _ _ _ _ _ (omega arith) inv.patched))

@@ -1,13 +1,9 @@
 -- `encode_shape` meets its contract: the data is as at entry, and every line passed sums to zero. Assumes nothing.
-use Rattle.std.proofs.Common.{rules, arith, ◌∙◌}
+use Rattle.std.proofs.Common.{arith, ◌∙◌}
 use Rattle.code.proofs.ShiftLaws.{shift_fair}
 use Rattle.stripe.specs.ParityLaws.{last_within}
-use Rattle.stripe.specs.EncodeLaws.{encoded_none, encoded_more, encoded_all}
+use Rattle.stripe.specs.EncodeLaws.{encoded_more, encoded_all}
 use Rattle.stripe.proofs.encoding.encode_shape.Goals as goal
-
-pub loop-t-init : goal.loop-t-init
-loop-t-init c =
-    (encoded_none _ _ _, search rules)
 
 pub build-requires : goal.build-requires
 build-requires c =
@@ -20,10 +16,6 @@ loop-t-preserved c =
       encoded_more _ (shift_fair a.n a.r a.s (omega arith)) _ _ _ _ c.loop-t.invariant.0 _ _ (omega arith) c.parity_in.ensures built.builds,
       built.room,
     )
-
-pub shape_of-stripe : goal.shape_of-stripe
-shape_of-stripe c =
-    c.loop-t.invariant.0.size
 
 pub returns : goal.returns
 returns c =
