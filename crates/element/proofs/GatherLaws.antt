@@ -150,6 +150,9 @@ or_tells xs = record { yes = λ e. (or_zero xs 0 (eqb-true _ _ e)).1; no = λ z.
 
 -- ---- what is_zero answers
 
+pub tells_yes : (s os : List ℕ) (e k : ℕ) → e ≤ k → Zero k (total s os) → Tells s e os true
+tells_yes s os e k h z = record { yes = λ x. zero_part k e (total s os) h z; no = λ y. refl }
+
 -- the last run decides
 pub tells_last : (s os : List ℕ) (e k : ℕ) (a : List ℕ) (r : Bool) → e ≡ k + length a → Zero k (total s os)
     → Begins (length a) (λ t. total s os (k + t)) a → AllZero (length a) (λ t. get_or a t 0) r → Tells s e os r
