@@ -2,7 +2,7 @@
 use Rattle.std.proofs.Common.{◌≡◌, subst, arith, ℕ, ◌+◌, ◌*◌, ◌/◌, length}
 use Rattle.element.specs.Sofar.{Sofar}
 use Rattle.element.proofs.Parts.{fits_of, chunk_of, part_one}
-use Rattle.element.proofs.GatherLaws.{sofar_none, sofar_more, sofar_all}
+use Rattle.element.proofs.SofarLaws.{sofar_none, sofar_more, sofar_all}
 use Rattle.element.proofs.kernel.sum.Goals as goal
 
 pub loop-four-init : goal.loop-four-init
