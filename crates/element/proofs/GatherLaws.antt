@@ -8,7 +8,7 @@ use Rattle.code.specs.SumLaws.{sum_ext, clash}
 use Rattle.std.specs.List.{fold}
 use Rattle.element.specs.Filled.{Begins, Filled}
 use Rattle.element.specs.FilledLaws.{filled_same, filled_then}
-use Rattle.element.specs.Gather.{from, total, Fits, Apart, Gathered, Zero, AllZero, Tells}
+use Rattle.element.specs.Gather.{from, total, Apart, Gathered, Zero, AllZero, Tells}
 
 -- ---- a block, or its first m bytes, as a run
 
@@ -19,10 +19,6 @@ pub run_part : (f : ℕ → ℕ) (m : ℕ) (a : List ℕ) → m ≤ length a →
 run_part f m a h p = record { each = λ k lt. let x : k < m = omega (arith, length-take-le m a h) in get_or-take m a k 0 x ∙ p.each k x }
 
 -- ---- gather, block after block
-
--- ranges that fit a list fit another as long, and so do shorter ones
-pub fits_part : (s t os : List ℕ) (e l : ℕ) → l ≤ e → length t ≡ length s → Fits s e os → Fits t l os
-fits_part s t os e l h g p = record { each = λ i lt. omega (arith, p.each i lt) }
 
 -- what lies apart from the e bytes at d is as it was: the sum of the rest is that of the entry bytes
 total_kept : (s os : List ℕ) (e d k : ℕ) (t : List ℕ) (i : ℕ) → i < e → k ≤ i → Apart e d os → Gathered s k d os t → total t os i ≡ total s os i

@@ -61,9 +61,4 @@ pub partial_all : (s os : List ℕ) (i k : ℕ) → i ≡ length os → partial 
 partial_all s os i k e = ap (λ (n : ℕ). partial s os n k) e ∙ sym (sum_index (from s k) os)
 
 pub sofar_all : (s os : List ℕ) (k m j : ℕ) (a : List ℕ) → length os ≤ j → Sofar s os k m j a → Begins m (λ t. total s os (k + t)) a
-sofar_all s os k m j a h p =
-    record {
-      each = λ t lt. p.each t lt
-          ∙ ap (λ (x : ℕ). partial s os x (k + t)) (le_antisymm p.within h)
-          ∙ sym (sum_index (from s (k + t)) os);
-    }
+sofar_all s os k m j a h p = record { each = λ t lt. p.each t lt ∙ partial_all s os j (k + t) (le_antisymm p.within h) }
