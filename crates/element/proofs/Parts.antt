@@ -43,7 +43,11 @@ chunk_of n j os fs p e lt = subst (λ (x : List (List ℕ)). (length (get_or x j
     long = length_chunk n c j os room lt
 
     part : Part os (n * j) (get_or (first_chunks n c os) j [])
-    part = record { within = omega (arith, long, room, mul-le-mul_left {m = j + 1} {n = c} n (omega arith)); each = λ i x. chunk_each n c j i os lt (omega (arith, long)) }
+    part =
+        record {
+          within = omega (arith, long, room, mul-le-mul_left {m = j + 1} {n = c} n (omega arith));
+          each = λ i x. chunk_each n c j i os lt (omega (arith, long));
+        }
 
 -- ---- what is left, one by one
 

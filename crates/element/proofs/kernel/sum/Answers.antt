@@ -1,5 +1,5 @@
 -- `sum` meets its contract: the first m bytes of the sum, four sources a turn and then one by one. Assumes nothing.
-use Rattle.std.proofs.Common.{arith}
+use Rattle.std.proofs.Common.{arith, ◌/◌, ◌<◌, length}
 use Rattle.element.proofs.Parts.{fits_of, chunk_of, part_one}
 use Rattle.element.proofs.SofarLaws.{sofar_none, sofar_more, sofar_all}
 use Rattle.element.proofs.kernel.sum.Goals as goal
@@ -10,12 +10,14 @@ loop-four-init c =
 
 pub loop-four-preserved : goal.loop-four-preserved
 loop-four-preserved c =
-    let p = chunk_of 4 c.loop-four.four-index c.args.offs.now _ (omega arith) c.as_chunks.ensures.front (omega (arith, c.as_chunks.ensures.front_len)) in
+    let j : c.loop-four.four-index < length c.args.offs.now / 4 = omega (arith, c.as_chunks.ensures.front_len) in
+    let p = chunk_of 4 c.loop-four.four-index c.args.offs.now _ (omega arith) c.as_chunks.ensures.front j in
     sofar_more _ _ _ _ _ _ _ _ _ (omega (arith, p.0)) p.1 c.loop-four.invariant c.add.ensures
 
 pub add-requires : goal.add-requires
 add-requires c =
-    let p = chunk_of 4 c.loop-four.four-index c.args.offs.now _ (omega arith) c.as_chunks.ensures.front (omega (arith, c.as_chunks.ensures.front_len)) in
+    let j : c.loop-four.four-index < length c.args.offs.now / 4 = omega (arith, c.as_chunks.ensures.front_len) in
+    let p = chunk_of 4 c.loop-four.four-index c.args.offs.now _ (omega arith) c.as_chunks.ensures.front j in
     (omega arith, ((c.loop-four.invariant.long, c.requires.1), fits_of _ _ _ _ _ p.1 c.requires.0))
 
 pub loop-one-preserved : goal.loop-one-preserved
