@@ -1,82 +1,24 @@
--- The loops of gather and is_zero: a sum after its first j sources, a test after its first t bytes, a buffer after its first k. Assumes nothing.
-use Rattle.std.specs.Prelude.{◌≡◌, refl, Bool, true, false, List, [], ◌∷◌, ℕ, zero, suc, ◌+◌, ◌-◌, ◌≤◌, ◌<◌, length, get_or, replicate, eqb, take}
-use Rattle.std.proofs.Common.{sym, ap, ap₂, ◌∙◌, inl, inr, ⊎_elim, not-suc-le-zero, le_antisymm, arith, eq-eqb, eqb-true, get_or-take, length-take-le}
+-- The loops of gather and is_zero: a buffer after its first k bytes, a test after its first k. Assumes nothing.
+use Rattle.std.specs.Prelude.{◌≡◌, refl, Bool, true, false, List, [], ◌∷◌, ℕ, zero, suc, ◌+◌, ◌-◌, ◌≤◌, ◌<◌, length, get_or, eqb, take}
+use Rattle.std.proofs.Common.{sym, ap, ◌∙◌, inl, inr, ⊎_elim, not-suc-le-zero, arith, eq-eqb, eqb-true, get_or-take, length-take-le}
 use Rattle.std.proofs.Math.Decide.{dec_lt}
 use Rattle.std.specs.Int.Bits.{bit_or, or_add_and}
 use Rattle.std.proofs.lemmas.Nat.{and_le_l, and_le_r}
-use Rattle.std.proofs.lemmas.List.{length-replicate, get_or-replicate}
-use Rattle.code.specs.Xor.{◌⊕◌, ⊕_assoc, ⊕_zero}
-use Rattle.code.specs.Sum.{sum_to}
-use Rattle.code.specs.SumLaws.{sum_to_none, sum_to_more, sum_to_ext, sum_index, sum_ext, clash}
+use Rattle.code.specs.SumLaws.{sum_ext, clash}
 use Rattle.std.specs.List.{fold}
 use Rattle.element.specs.Filled.{Begins, Filled}
-use Rattle.element.specs.FilledLaws.{filled_begins, filled_same, filled_then}
-use Rattle.element.specs.Sofar.{partial, Sofar}
-use Rattle.element.proofs.Parts.{Part}
-use Rattle.element.specs.Gather.{from, total, Fits, Apart, Gathered, Zero, AllZero, Tells}
+use Rattle.element.specs.FilledLaws.{filled_same, filled_then}
+use Rattle.element.specs.Gather.{from, total, Apart, Gathered, Zero, AllZero, Tells}
 
--- ---- a block of the sum, source after source
+-- ---- a block, or its first m bytes, as a run
 
-pub sofar_none : (s os : List ℕ) (k m : ℕ) → m ≤ 128 → Sofar s os k m 0 (replicate 128 0)
-sofar_none s os k m h =
-    record {
-      long = length-replicate {A = ℕ} 128 0;
-      within = omega arith;
-      each = λ t lt. get_or-replicate {A = ℕ} 128 t 0 0 (omega arith) ∙ sym (sum_to_none (λ i. from s (k + t) (get_or os i 0)));
-    }
+run_whole : (f : ℕ → ℕ) (m : ℕ) (a : List ℕ) → length a ≡ m → Begins m f a → Begins (length a) f a
+run_whole f m a e p = record { each = λ k lt. p.each k (omega arith) }
 
--- a sum of n more
-sum_to_then : (j n : ℕ) (f : ℕ → ℕ) → sum_to (j + n) f ≡ sum_to j f ⊕ sum_to n (λ i. f (j + i))
-unfolding sum_to
-sum_to_then j zero f =
-    let e : j + 0 ≡ j = omega arith in
-    ap (λ (n : ℕ). sum_to n f) e ∙ sym (⊕_zero (sum_to j f)) ∙ ap (λ (x : ℕ). sum_to j f ⊕ x) (sym (sum_to_none (λ i. f (j + i))))
-sum_to_then j (suc n) f =
-    let e : j + suc n ≡ (j + n) + 1 = omega arith in
-    ap (λ (x : ℕ). sum_to x f) e ∙ sum_to_more (j + n) f ∙ ap (λ (x : ℕ). x ⊕ f (j + n)) (sum_to_then j n f)
-    ∙ ⊕_assoc (sum_to j f) (sum_to n (λ i. f (j + i))) (f (j + n))
-
--- the sources at qs, which os has from j on, added to what stands
-pub sofar_more : (s os qs : List ℕ) (k m j l : ℕ) (a b : List ℕ) → l ≡ j + length qs → Part os j qs → Sofar s os k m j a
-    → Filled a 0 m (λ t. get_or a t 0 ⊕ total s qs (k + t)) b → Sofar s os k m l b
-sofar_more s os qs k m j l a b e r p q =
-    record {
-      long = q.long ∙ p.long;
-      within = omega (arith, r.within);
-      each = λ t lt. (filled_begins a m (λ x. get_or a x 0 ⊕ total s qs (k + x)) b q).each t lt
-          ∙ ap₂ ◌⊕◌ (p.each t lt) (sum_index (from s (k + t)) qs
-          ∙ sum_to_ext (length qs) (λ i. from s (k + t) (get_or qs i 0)) (λ i. from s (k + t) (get_or os (j + i) 0)) (λ i lt. ap (from s (k + t)) (r.each i lt)))
-          ∙ sym (sum_to_then j (length qs) (λ i. from s (k + t) (get_or os i 0)))
-          ∙ ap (λ (x : ℕ). partial s os x (k + t)) (sym e);
-    }
-
--- one source more on byte t of acc
-pub partial_more : (s os : List ℕ) (k t i a x : ℕ) → x ≡ a ⊕ partial s os i (k + t)
-    → x ⊕ get_or s ((get_or os i 0 + k) + t) 0 ≡ a ⊕ partial s os (i + 1) (k + t)
-partial_more s os k t i a x e =
-    let f : ℕ → ℕ = λ i. from s (k + t) (get_or os i 0) in
-    let y : (get_or os i 0 + k) + t ≡ get_or os i 0 + (k + t) = omega arith in
-    ap₂ ◌⊕◌ e (ap (λ (n : ℕ). get_or s n 0) y) ∙ ⊕_assoc a (sum_to i f) (f i) ∙ ap (λ (n : ℕ). a ⊕ n) (sym (sum_to_more i f))
-
-pub partial_none : (s os : List ℕ) (k a : ℕ) → a ≡ a ⊕ partial s os 0 k
-partial_none s os k a = sym (⊕_zero a) ∙ ap (λ (n : ℕ). a ⊕ n) (sym (sum_to_none (λ i. from s k (get_or os i 0))))
-
-pub partial_all : (s os : List ℕ) (i k : ℕ) → i ≡ length os → partial s os i k ≡ total s os k
-partial_all s os i k e = ap (λ (n : ℕ). partial s os n k) e ∙ sym (sum_index (from s k) os)
-
-pub sofar_all : (s os : List ℕ) (k m j : ℕ) (a : List ℕ) → length os ≤ j → Sofar s os k m j a → Begins m (λ t. total s os (k + t)) a
-sofar_all s os k m j a h p =
-    record {
-      each = λ t lt. p.each t lt
-          ∙ ap (λ (x : ℕ). partial s os x (k + t)) (le_antisymm p.within h)
-          ∙ sym (sum_index (from s (k + t)) os);
-    }
+pub run_part : (f : ℕ → ℕ) (m : ℕ) (a : List ℕ) → m ≤ length a → Begins m f a → Begins (length (take m a)) f (take m a)
+run_part f m a h p = record { each = λ k lt. let x : k < m = omega (arith, length-take-le m a h) in get_or-take m a k 0 x ∙ p.each k x }
 
 -- ---- gather, block after block
-
--- ranges that fit a list fit another as long, and so do shorter ones
-pub fits_part : (s t os : List ℕ) (e l : ℕ) → l ≤ e → length t ≡ length s → Fits s e os → Fits t l os
-fits_part s t os e l h g p = record { each = λ i lt. omega (arith, p.each i lt) }
 
 -- what lies apart from the e bytes at d is as it was: the sum of the rest is that of the entry bytes
 total_kept : (s os : List ℕ) (e d k : ℕ) (t : List ℕ) (i : ℕ) → i < e → k ≤ i → Apart e d os → Gathered s k d os t → total t os i ≡ total s os i
@@ -94,13 +36,11 @@ gathered_then s os e d k l t a u c h p g q f =
     (filled_then s d k (length a) (total s os) (λ i. get_or a i 0) t u
     (λ i lt. q.each i lt ∙ total_kept s os e d k t (k + i) (omega arith) (omega arith) p g) g f)
 
--- ---- a block, or its first m bytes, as a run
-
-pub run_whole : (f : ℕ → ℕ) (m : ℕ) (a : List ℕ) → length a ≡ m → Begins m f a → Begins (length a) f a
-run_whole f m a e p = record { each = λ k lt. p.each k (omega arith) }
-
-pub run_part : (f : ℕ → ℕ) (m : ℕ) (a : List ℕ) → m ≤ length a → Begins m f a → Begins (length (take m a)) f (take m a)
-run_part f m a h p = record { each = λ k lt. let x : k < m = omega (arith, length-take-le m a h) in get_or-take m a k 0 x ∙ p.each k x }
+-- the same of a block
+pub gathered_block : (s os : List ℕ) (e d k l : ℕ) (t a u : List ℕ) → l ≡ k + 128 → length a ≡ 128 → l ≤ e → Apart e d os → Gathered s k d os t
+    → Begins 128 (λ i. total t os (k + i)) a → Filled t (d + k) (length a) (λ i. get_or a i 0) u → Gathered s l d os u
+gathered_block s os e d k l t a u c y h p g q f =
+    gathered_then s os e d k l t a u (omega arith) h p g (run_whole (λ i. total t os (k + i)) 128 a y q) f
 
 -- ---- zero, one after the other and run after run
 
@@ -119,6 +59,10 @@ zero_then f k l a h p q z = record { each = λ i lt. go i (omega arith) (dec_lt 
     go : (i : ℕ) → i < k + length a → Dec (i < k) → f i ≡ 0
     go i lt (yes x) = p.each i x
     go i lt (no x) = let y : i ≡ k + (i - k) = omega arith in ap f y ∙ sym (q.each (i - k) (omega arith)) ∙ z.each (i - k) (omega arith)
+
+pub zero_block : (f : ℕ → ℕ) (k l : ℕ) (a : List ℕ) → l ≡ k + 128 → length a ≡ 128 → Zero k f → Begins 128 (λ t. f (k + t)) a
+    → Zero (length a) (λ t. get_or a t 0) → Zero l f
+zero_block f k l a c y p q z = zero_then f k l a (omega arith) p (run_whole (λ t. f (k + t)) 128 a y q) z
 
 -- ---- the test of a block
 
@@ -149,6 +93,9 @@ pub or_tells : (xs : List ℕ) → AllZero (length xs) (λ k. get_or xs k 0) (eq
 or_tells xs = record { yes = λ e. (or_zero xs 0 (eqb-true _ _ e)).1; no = λ z. eq-eqb _ 0 (or_of_zero xs z) }
 
 -- ---- what is_zero answers
+
+pub tells_yes : (s os : List ℕ) (e k : ℕ) → e ≤ k → Zero k (total s os) → Tells s e os true
+tells_yes s os e k h z = record { yes = λ x. zero_part k e (total s os) h z; no = λ y. refl }
 
 -- the last run decides
 pub tells_last : (s os : List ℕ) (e k : ℕ) (a : List ℕ) (r : Bool) → e ≡ k + length a → Zero k (total s os)

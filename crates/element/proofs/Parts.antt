@@ -1,6 +1,7 @@
 -- A list of sources taken part by part: the chunks that as_chunks gives, and one source of what it leaves. Assumes nothing.
 use Rattle.std.specs.Prelude.{◌≡◌, List, [], ◌∷◌, ℕ, zero, suc, ◌+◌, ◌*◌, ◌/◌, ◌≤◌, ◌<◌, length, get_or, drop}
-use Rattle.std.proofs.Common.{sym, ap, subst, ◌∙◌, refl, not-suc-le-zero, arith, length-drop, get_or-take, get_or-drop, length-take-le}
+use Rattle.std.proofs.Common.{sym, ap, subst, ◌∙◌, not-suc-le-zero, arith, length-drop, get_or-take, get_or-drop, length-take-le}
+use Rattle.std.proofs.Math.Nat.{mul-le-mul_left}
 use Rattle.std.specs.Simd.{first_chunks}
 use Rattle.element.specs.Gather.{Fits}
 
@@ -15,10 +16,6 @@ fits_of s os qs e j p h = record { each = λ i lt. omega (arith, p.each i lt, p.
 
 -- ---- chunks of n
 
-length_chunks : (n c : ℕ) (os : List ℕ) → length (first_chunks n c os) ≡ c
-length_chunks n zero os = refl
-length_chunks n (suc c) os = ap suc (length_chunks n c (drop n os))
-
 length_chunk : (n c j : ℕ) (os : List ℕ) → n * c ≤ length os → j < c → length (get_or (first_chunks n c os) j []) ≡ n
 length_chunk n zero j os h lt = absurd (not-suc-le-zero lt)
 length_chunk n (suc c) zero os h lt = length-take-le n os (omega arith)
@@ -31,30 +28,26 @@ chunk_each n (suc c) (suc j) i os h lt =
     let e : n + (n * j + i) ≡ n * suc j + i = omega arith in
     chunk_each n c j i (drop n os) (omega arith) lt ∙ get_or-drop n os (n * j + i) 0 ∙ ap (λ (x : ℕ). get_or os x 0) e
 
-mul_room : (n j c : ℕ) → j < c → n * j + n ≤ n * c
-mul_room n j zero lt = absurd (not-suc-le-zero lt)
-mul_room n zero (suc c) lt = omega arith
-mul_room n (suc j) (suc c) lt = omega (arith, mul_room n j c (omega arith))
-
 -- chunk j of those that as_chunks gives
-pub chunk_of : (n j : ℕ) (os : List ℕ) (fs : List (List ℕ)) → 0 < n → fs ≡ first_chunks n (length os / n) os → j < length fs
+pub chunk_of : (n j : ℕ) (os : List ℕ) (fs : List (List ℕ)) → 0 < n → fs ≡ first_chunks n (length os / n) os → j < length os / n
     → (length (get_or fs j []) ≡ n) × Part os (n * j) (get_or fs j [])
 chunk_of n j os fs p e lt = subst (λ (x : List (List ℕ)). (length (get_or x j []) ≡ n) × Part os (n * j) (get_or x j [])) (sym e) (long, part)
   where
     c : ℕ
     c = length os / n
 
-    h : n * c ≤ length os
-    h = omega arith
-
-    below : j < c
-    below = omega (arith, ap length e, length_chunks n c os)
+    room : n * c ≤ length os
+    room = omega arith
 
     long : length (get_or (first_chunks n c os) j []) ≡ n
-    long = length_chunk n c j os h below
+    long = length_chunk n c j os room lt
 
     part : Part os (n * j) (get_or (first_chunks n c os) j [])
-    part = record { within = omega (arith, long, mul_room n j c below, h); each = λ i x. chunk_each n c j i os below (omega (arith, long)) }
+    part =
+        record {
+          within = omega (arith, long, room, mul-le-mul_left {m = j + 1} {n = c} n (omega arith));
+          each = λ i x. chunk_each n c j i os lt (omega (arith, long));
+        }
 
 -- ---- what is left, one by one
 

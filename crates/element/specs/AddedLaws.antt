@@ -44,13 +44,3 @@ added_part s run y d m l e h q =
     subst (λ (n : ℕ). Filled s d m (λ t. get_or s (d + t) 0 ⊕ get_or run t 0) (take d s ++ (y ++ drop n (drop d s)))) e
     (subst (λ (x : List ℕ). Filled s d m (λ t. get_or s (d + t) 0 ⊕ get_or run t 0) (take d s ++ (x ++ drop m (drop d s))))
     (sym (q ∙ ap (λ (n : ℕ). added (take n (drop d s)) run) (sym e))) (filled_added s run d m h))
-
--- a run that was written, and then added to in its place
-pub filled_over : (s t u : List ℕ) (d m : ℕ) (f g : ℕ → ℕ) → Filled s d m f t → Filled t d m (λ k. get_or t (d + k) 0 ⊕ g k) u
-    → Filled s d m (λ k. f k ⊕ g k) u
-filled_over s t u d m f g p q =
-    record {
-      long = q.long ∙ p.long;
-      inside = λ k lt. q.inside k lt ∙ ap (λ (x : ℕ). x ⊕ g k) (p.inside k lt);
-      outside = λ i o. q.outside i o ∙ p.outside i o;
-    }

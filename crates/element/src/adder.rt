@@ -4,8 +4,6 @@ ghost use Rattle.code.specs.Xor.{◌⊕◌};
 ghost use Rattle.element.specs.Filled.{Filled};
 ghost use Rattle.element.specs.Added.{added};
 
-use crate::kernel::put;
-
 // Each byte of run added to the byte of part at the same index.
 pub fn add(part: &mut [u8], run: &[u8])
     requires { length run.now ≡ length part.old }
@@ -30,7 +28,9 @@ pub fn delta(s: &[u8], d: usize, v: &[u8], c: usize, m: usize) -> [u8; 128]
     ensures { Filled (replicate 128 0) 0 m (λ t. get_or s.now (d + t) 0 ⊕ get_or v.now (c + t) 0) result }
 {
     let mut a = [0; 128];
-    put(&mut a, 0, &s[d..d + m]);
-    add_at(&mut a, 0, &v[c..c + m]);
+    // a range: by put and add_at, with slices, a write of one byte costs 276 instructions, and 244 so
+    for t in 0..m {
+        a[t] = s[d + t] ^ v[c + t];
+    }
     a
 }

@@ -14,12 +14,11 @@ pub fn gather(s: &mut [u8], e: usize, d: usize, offs: &[usize])
     requires { (d + e ≤ length s.old) × Fits s.old e offs.now × Apart e d offs.now }
     ensures { Gathered s.old e d offs.now s.new }
 {
-    for block in 0..e / 128 {
-        let k = 128 * block;
+    let m = e % 128;
+    for k in (0..e - m).step_by(128) {
         let acc = kernel::sum(s, offs, k, 128);
         kernel::put(s, d + k, &acc);
     }
-    let m = e % 128;
     let rest = 0 < m;
     if rest {
         let k = e - m;
@@ -33,13 +32,13 @@ pub fn is_zero(s: &[u8], e: usize, offs: &[usize]) -> bool
     requires { Fits s.now e offs.now }
     ensures { Tells s.now e offs.now result }
 {
-    for block in 0..e / 128 {
-        let acc = kernel::sum(s, offs, 128 * block, 128);
+    let m = e % 128;
+    for k in (0..e - m).step_by(128) {
+        let acc = kernel::sum(s, offs, k, 128);
         if !kernel::all_zero(&acc) {
             return false;
         }
     }
-    let m = e % 128;
     if m == 0 {
         return true;
     }

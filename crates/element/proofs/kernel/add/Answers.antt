@@ -3,7 +3,7 @@ use Rattle.std.proofs.Common.{arith, ℕ, ap, ◌∙◌, ◌+◌, get_or}
 use Rattle.code.specs.Xor.{◌⊕◌}
 use Rattle.element.specs.Gather.{total}
 use Rattle.element.specs.FilledLaws.{filled_more, filled_next}
-use Rattle.element.proofs.GatherLaws.{partial_none, partial_more, partial_all}
+use Rattle.element.proofs.SofarLaws.{partial_none, partial_more, partial_all}
 use Rattle.element.proofs.kernel.add.Goals as goal
 
 pub loop-o-init : goal.loop-o-init

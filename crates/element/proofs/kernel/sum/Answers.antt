@@ -1,8 +1,7 @@
 -- `sum` meets its contract: the first m bytes of the sum, four sources a turn and then one by one. Assumes nothing.
-use Rattle.std.proofs.Common.{◌≡◌, subst, arith, ℕ, ◌+◌, ◌*◌, ◌/◌, length}
-use Rattle.element.specs.Sofar.{Sofar}
+use Rattle.std.proofs.Common.{arith, ◌/◌, ◌<◌, length}
 use Rattle.element.proofs.Parts.{fits_of, chunk_of, part_one}
-use Rattle.element.proofs.GatherLaws.{sofar_none, sofar_more, sofar_all}
+use Rattle.element.proofs.SofarLaws.{sofar_none, sofar_more, sofar_all}
 use Rattle.element.proofs.kernel.sum.Goals as goal
 
 pub loop-four-init : goal.loop-four-init
@@ -11,23 +10,15 @@ loop-four-init c =
 
 pub loop-four-preserved : goal.loop-four-preserved
 loop-four-preserved c =
-    let p = chunk_of 4 c.loop-four.four-index c.args.offs.now _ (omega arith) c.as_chunks.ensures.front c.loop-four-test.true in
+    let j : c.loop-four.four-index < length c.args.offs.now / 4 = omega (arith, c.as_chunks.ensures.front_len) in
+    let p = chunk_of 4 c.loop-four.four-index c.args.offs.now _ (omega arith) c.as_chunks.ensures.front j in
     sofar_more _ _ _ _ _ _ _ _ _ (omega (arith, p.0)) p.1 c.loop-four.invariant c.add.ensures
 
 pub add-requires : goal.add-requires
 add-requires c =
-    let p = chunk_of 4 c.loop-four.four-index c.args.offs.now _ (omega arith) c.as_chunks.ensures.front c.loop-four-test.true in
+    let j : c.loop-four.four-index < length c.args.offs.now / 4 = omega (arith, c.as_chunks.ensures.front_len) in
+    let p = chunk_of 4 c.loop-four.four-index c.args.offs.now _ (omega arith) c.as_chunks.ensures.front j in
     (omega arith, ((c.loop-four.invariant.long, c.requires.1), fits_of _ _ _ _ _ p.1 c.requires.0))
-
-pub loop-one-init : goal.loop-one-init
-loop-one-init c =
-    let j : 4 * c.loop-four.four-index ≡ length c.args.offs.now / 4 * 4 + 0 = omega (arith, c.as_chunks.ensures.front_len) in
-    subst (λ (n : ℕ). Sofar c.args.s.now c.args.offs.now c.args.k c.args.m n c.loop-four.acc) j c.loop-four.invariant
-
-pub add-requires-in-loop-one : goal.add-requires-in-loop-one
-add-requires-in-loop-one c =
-    let p = part_one c.args.offs.now _ _ c.loop-one.one-index c.as_chunks.ensures.back c.loop-one-test.true in
-    (omega arith, ((c.loop-one.invariant.long, c.requires.1), fits_of _ _ _ _ _ p c.requires.0))
 
 pub loop-one-preserved : goal.loop-one-preserved
 loop-one-preserved c =
