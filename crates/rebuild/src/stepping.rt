@@ -15,8 +15,9 @@ fn where_built(shape: Shape, step: Step) -> (usize, usize)
     requires shaped { Shaped shape.n shape.r (read step) }
     ensures { Where (shift shape.n shape.r shape.s) (read step) result.0 result.1 }
 {
-    let Step { kind, row, strip } = step;
-    match kind {
+    let row = usize::from(step.row);
+    let strip = usize::from(step.strip);
+    match step.kind {
         Kind::ByRow | Kind::H => (row, strip),
         Kind::ByDiagonal => (shape.r + shape.diagonal(row, strip), row),
         Kind::U => (shape.r + strip, row),

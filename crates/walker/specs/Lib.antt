@@ -4,6 +4,7 @@ pub mod Tally
 pub mod Flags
 pub mod Written
 pub mod Search
+pub mod Lines
 pub mod SearchLaws
 pub mod Chain
 pub mod Sweep

@@ -1,9 +1,8 @@
 -- What the walker's searches answer. Assumes nothing.
 -- D i j == the diagonal of row i in strip j    g == the flags    t == the answer
-use Rattle.std.specs.Prelude.{ℕ, ◌<◌, ◌≤◌, ◌≡◌, List, Bool, true, false, Option, Some, None}
-use Rattle.code.specs.Layout.{Layout, pair}
-use Rattle.code.specs.Drawn.{drawn}
-use Rattle.code.specs.Live.{Line, row, Lone}
+use Rattle.std.specs.Prelude.{ℕ, ◌<◌, ◌≤◌, ◌≡◌, ◌⊎◌, List, Bool, true, false, Option, Some, None}
+use Rattle.code.specs.Layout.{Layout}
+use Rattle.code.specs.Live.{Line, row, diagonal, On, Lone}
 use Rattle.walker.specs.Flags.{Marked}
 
 -- n data strips, r rows, and the lost strips a and b, where a = b if one is lost
@@ -12,6 +11,16 @@ pub record Case (n r a b : ℕ) : Type 0 where
   pub rows : r ≤ 32
   pub ordered : a ≤ b
   pub within : b ≤ n
+
+-- a line of the layout
+abbrev pub Among : Layout → Line → Type 0
+Among L (row i) = i < L.r
+Among L (diagonal d) = d < L.n
+
+-- M is a line of the layout, and the lines through the element of row i in strip j are K and M
+pub record Crossed (L : Layout) (K : Line) (i j : ℕ) (M : Line) : Type 0 where
+  pub among : Among L M
+  pub two : (N : Line) → On L N i j → (N ≡ K) ⊎ (N ≡ M)
 
 -- whether strip c has data, and that of row i lies on diagonal d and is not flagged
 pub record OpenAt (D : ℕ → ℕ → ℕ) (n : ℕ) (g : List (List Bool)) (c d i : ℕ) (t : Bool) : Type 0 where
@@ -42,10 +51,6 @@ NextOn D n r lost g d from None = Passed D n lost g d from r
 abbrev pub FoundOn : Layout → (ℕ → Bool) → List (List Bool) → Line → Option (ℕ × ℕ) → Type 0
 FoundOn L lost g K (Some p) = Lone L lost (Marked g) K p.0 p.1
 FoundOn L lost g K None = (i j : ℕ) → Lone L lost (Marked g) K i j → ⊥
-
--- the same of row i, whatever the map
-pub record FoundIn (n a b : ℕ) (g : List (List Bool)) (i : ℕ) (t : Option (ℕ × ℕ)) : Type 0 where
-  pub any : (m : List (List ℕ)) (h : List ℕ) (r : ℕ) → i < r → FoundOn (drawn m h n r) (pair a b) g (row i) t
 
 -- an element of strip c that is not flagged
 pub record Gap (n r : ℕ) (g : List (List Bool)) (c : ℕ) : Type 0 where

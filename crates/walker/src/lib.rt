@@ -2,20 +2,20 @@
 #![tactic(auto)]
 
 mod find;
+mod lost;
 mod plan;
 
-ghost use Rattle.std.specs.Prelude.{◌+◌, ◌<◌, ◌≤◌};
+ghost use Rattle.std.specs.Prelude.{◌+◌, ◌≤◌};
 ghost use Rattle.code.specs.Layout.{Fair, pair};
 ghost use Rattle.code.specs.Drawn.{drawn};
-ghost use Rattle.code.specs.Live.{row, diagonal};
 ghost use Rattle.code.specs.Walk.{Walk};
 ghost use Rattle.walker.specs.Written.{written};
-ghost use Rattle.walker.specs.Search.{Case};
+ghost use Rattle.walker.specs.Search.{Case, Among};
 ghost use Rattle.walker.specs.Chain.{State, Stepped};
 ghost use Rattle.walker.specs.Sweep.{Swept};
 ghost use Rattle.walker.specs.Closing.{BuiltV, BuiltH};
 
-use crate::find::{lone_in_row, lone_on_diagonal, strip_built};
+use crate::lost::{Line, Lost};
 pub use plan::{Kind, Plan, Step};
 
 // What a walk hands back: its plan, and whether the plan builds every lost place. A plan that leaves some is right as far as it goes.
@@ -25,118 +25,69 @@ pub struct Walked {
     pub whole: bool,
 }
 
-// Builds the one unknown element of row i, if it has one, and goes on by that element's diagonal.
-#[cycle(diag_step_row_step)]
-fn row_step(
-    map: &[[u8; 32]; 32],
-    home: &[u8; 32],
-    n: usize,
-    r: usize,
-    a: usize,
-    b: usize,
-    i: usize,
-    built: &mut [[bool; 32]; 32],
-    plan: &mut Plan,
-)
-    requires { Case n r a b × Fair (drawn map.now home.now n r) × (i < r) × State (drawn map.now home.now n r) (pair a b) built.old plan.old.steps plan.old.count }
-    ensures { Stepped (drawn map.now home.now n r) (pair a b) (row i) built.old built.new plan.new.steps plan.new.count }
-{
-    let Some((h, l)) = lone_in_row(built, n, a, b, i) else {
-        return;
-    };
-    built[h][l] = true;
-    plan.push(Kind::ByRow, h, l);
-    let d = usize::from(map[h][l]);
-    diag_step(map, home, n, r, a, b, d, built, plan);
+// How far a walk has come: which elements are built, and the steps that built them.
+#[derive(Clone, Copy)]
+struct Progress {
+    built: [[bool; 32]; 32],
+    plan: Plan,
 }
 
-// Builds the one unknown element of diagonal d, if it has one, and goes on by that element's row.
-#[cycle(diag_step_row_step)]
-fn diag_step(
-    map: &[[u8; 32]; 32],
-    home: &[u8; 32],
-    n: usize,
-    r: usize,
-    a: usize,
-    b: usize,
-    d: usize,
-    built: &mut [[bool; 32]; 32],
-    plan: &mut Plan,
-)
-    requires { Case n r a b × Fair (drawn map.now home.now n r) × (d < n) × State (drawn map.now home.now n r) (pair a b) built.old plan.old.steps plan.old.count }
-    ensures { Stepped (drawn map.now home.now n r) (pair a b) (diagonal d) built.old built.new plan.new.steps plan.new.count }
-{
-    let Some((h, l)) = lone_on_diagonal(map, home, built, n, r, a, b, d) else {
-        return;
-    };
-    built[h][l] = true;
-    plan.push(Kind::ByDiagonal, h, l);
-    row_step(map, home, n, r, a, b, h, built, plan);
-}
+impl Lost<'_> {
+    ghost use Rattle.walker.specs.Lines.{layout, lost, line_of};
 
-// Follows the chains that start at a row.
-fn follow_rows(
-    map: &[[u8; 32]; 32],
-    home: &[u8; 32],
-    n: usize,
-    r: usize,
-    a: usize,
-    b: usize,
-    built: &mut [[bool; 32]; 32],
-    plan: &mut Plan,
-)
-    requires { Case n r a b × Fair (drawn map.now home.now n r) × State (drawn map.now home.now n r) (pair a b) built.old plan.old.steps plan.old.count }
-    ensures { Swept (drawn map.now home.now n r) (pair a b) built.new plan.new.steps plan.new.count r 0 }
-{
-    for i in 0..r {
-        row_step(map, home, n, r, a, b, i, built, plan);
+    // Builds the one unknown element of the line, if it has one, and goes on by the other line through that element.
+    fn follow(&self, line: Line, so_far: &mut Progress)
+        requires line { Among (layout self.now) (line_of line) }
+        requires state { State (layout self.now) (lost self.now) so_far.old.built so_far.old.plan.steps so_far.old.plan.count }
+        ensures { Stepped (layout self.now) (lost self.now) (line_of line) so_far.old.built so_far.new.built so_far.new.plan.steps so_far.new.plan.count }
+    {
+        let Some((i, j)) = self.lone(&so_far.built, line) else {
+            return;
+        };
+        so_far.built[i][j] = true;
+        so_far.plan.push(line.kind(), i, j);
+        self.follow(self.across(line, i, j), so_far);
     }
-}
 
-// Follows the chains that start at a diagonal.
-fn follow_diagonals(
-    map: &[[u8; 32]; 32],
-    home: &[u8; 32],
-    n: usize,
-    r: usize,
-    a: usize,
-    b: usize,
-    built: &mut [[bool; 32]; 32],
-    plan: &mut Plan,
-)
-    requires { Case n r a b × Fair (drawn map.now home.now n r) × Swept (drawn map.now home.now n r) (pair a b) built.old plan.old.steps plan.old.count r 0 }
-    ensures { Swept (drawn map.now home.now n r) (pair a b) built.new plan.new.steps plan.new.count r n }
-{
-    for d in 0..n {
-        diag_step(map, home, n, r, a, b, d, built, plan);
+    // Follows the chains that start at a row, then those that start at a diagonal.
+    fn sweep(&self, so_far: &mut Progress)
+        requires { State (layout self.now) (lost self.now) so_far.old.built so_far.old.plan.steps so_far.old.plan.count }
+        ensures { Swept (layout self.now) (lost self.now) so_far.new.built so_far.new.plan.steps so_far.new.plan.count self.now.r self.now.n }
+    {
+        for i in 0..self.r {
+            self.follow(Line::Row(i), so_far);
+        }
+        for d in 0..self.n {
+            self.follow(Line::Diagonal(d), so_far);
+        }
     }
-}
 
-// The steps for the lost U, each by its diagonal.
-fn build_v(n: usize, r: usize, a: usize, b: usize, plan: &mut Plan)
-    requires { Case n r a b × (plan.old.count ≤ 64) }
-    ensures { BuiltV n r a b plan.old.steps plan.old.count plan.new.steps plan.new.count }
-{
-    if a == n {
-        return;
+    // The steps for the lost U, each by its diagonal.
+    fn build_v(&self, plan: &mut Plan)
+        requires { plan.old.count ≤ 64 }
+        ensures { BuiltV self.now.n self.now.r self.now.a self.now.b plan.old.steps plan.old.count plan.new.steps plan.new.count }
+    {
+        if self.a == self.n {
+            return;
+        }
+        plan.push(Kind::U, self.r, self.a);
+        if self.b == self.n || self.a == self.b {
+            return;
+        }
+        plan.push(Kind::U, self.r, self.b);
     }
-    plan.push(Kind::U, r, a);
-    if b == n || a == b {
-        return;
-    }
-    plan.push(Kind::U, r, b);
-}
 
-// The steps for the H, each by its row, where strip n is lost.
-fn build_h(n: usize, r: usize, b: usize, plan: &mut Plan)
-    requires { (b ≤ n) × (n ≤ b → plan.old.count + r ≤ 66) }
-    ensures { BuiltH n r b plan.old.steps plan.old.count plan.new.steps plan.new.count }
-{
-    if b < n {
-        return;
-    }
-    for h in 0..r {
-        plan.push(Kind::H, h, n);
+    // The steps for the H, each by its row, where strip n is lost.
+    fn build_h(&self, plan: &mut Plan)
+        requires { self.now.n ≤ self.now.b → plan.old.count + self.now.r ≤ 66 }
+        ensures { BuiltH self.now.n self.now.r self.now.b plan.old.steps plan.old.count plan.new.steps plan.new.count }
+    {
+        if self.b < self.n {
+            return;
+        }
+        for h in 0..self.r {
+            plan.push(Kind::H, h, self.n);
+        }
     }
 }
 
@@ -146,14 +97,29 @@ pub fn walk(map: &[[u8; 32]; 32], home: &[u8; 32], n: usize, r: usize, a: usize,
     requires { Case n r a b × Fair (drawn map.now home.now n r) }
     ensures { Walk (drawn map.now home.now n r) (pair a b) (written result.plan.steps) result.plan.count result.whole }
 {
-    let mut built = [[false; 32]; 32];
-    let mut plan = Plan::new();
-    follow_rows(map, home, n, r, a, b, &mut built, &mut plan);
-    follow_diagonals(map, home, n, r, a, b, &mut built, &mut plan);
-    if !strip_built(&built, n, r, a) || !strip_built(&built, n, r, b) {
-        return Walked { plan, whole: false };
+    let lost = Lost {
+        map,
+        home,
+        n,
+        r,
+        a,
+        b,
+    };
+    let mut so_far = Progress {
+        built: [[false; 32]; 32],
+        plan: Plan::new(),
+    };
+    lost.sweep(&mut so_far);
+    if !lost.strip_built(&so_far.built, a) || !lost.strip_built(&so_far.built, b) {
+        return Walked {
+            plan: so_far.plan,
+            whole: false,
+        };
     }
-    build_v(n, r, a, b, &mut plan);
-    build_h(n, r, b, &mut plan);
-    Walked { plan, whole: true }
+    lost.build_v(&mut so_far.plan);
+    lost.build_h(&mut so_far.plan);
+    Walked {
+        plan: so_far.plan,
+        whole: true,
+    }
 }

@@ -2,6 +2,7 @@
 ghost use Rattle.std.specs.Prelude.{◌≡◌, ◌+◌, ◌<◌, ◌≤◌};
 
 // What a step builds, and by which line.
+#[repr(u8)]
 #[derive(Clone, Copy)]
 pub enum Kind {
     // A data element, by its row.
@@ -18,8 +19,8 @@ pub enum Kind {
 #[derive(Clone, Copy)]
 pub struct Step {
     pub kind: Kind,
-    pub row: usize,
-    pub strip: usize,
+    pub row: u8,
+    pub strip: u8,
 }
 
 // The first `count` of the steps are written down. Two lost strips have at most 66 places, so no step needs the heap.
@@ -51,10 +52,14 @@ impl Plan {
 
     // Writes one step more down.
     pub(crate) fn push(&mut self, kind: Kind, row: usize, strip: usize)
-        requires { self.old.count < 66 }
+        requires { (self.old.count < 66) × (row ≤ 32) × (strip ≤ 32) }
         ensures { Recorded self.old.steps self.old.count (number kind) row strip self.new.steps self.new.count }
     {
-        self.steps[self.count] = Step { kind, row, strip };
+        self.steps[self.count] = Step {
+            kind,
+            row: row as u8,
+            strip: strip as u8,
+        };
         self.count += 1;
     }
 

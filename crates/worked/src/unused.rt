@@ -12,8 +12,9 @@ fn line_of(shape: Shape, step: Step) -> usize
     requires shaped { Shaped shape.n shape.r (read step) }
     ensures { result < 64 }
 {
-    let Step { kind, row, strip } = step;
-    match kind {
+    let row = usize::from(step.row);
+    let strip = usize::from(step.strip);
+    match step.kind {
         Kind::ByRow | Kind::H => row,
         Kind::ByDiagonal => shape.r + shape.diagonal(row, strip),
         Kind::U => shape.r + strip,
