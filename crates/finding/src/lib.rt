@@ -3,8 +3,7 @@
 
 ghost use Rattle.std.specs.Prelude.{◌≡◌, ◌+◌, ◌≤◌, ◌<◌, length};
 ghost use Rattle.code.specs.Layout.{line};
-ghost use Rattle.code.specs.Shift.{shift};
-ghost use Rattle.shape.specs.Call.{bytes_of};
+ghost use Rattle.shape.specs.Shape.{layout_of, size_of};
 ghost use Rattle.lines.specs.Unbalanced.{unbalanced};
 ghost use Rattle.finding.specs.Found.{found_of, Finds};
 ghost use Rattle.finding.specs.Tally.{Tallied};
@@ -42,9 +41,9 @@ struct Tally {
 
 // The wrong ones among the m lines from line `from` on. They are read from the last down, so that the last one found is the first.
 fn wrong_lines(shape: Shape, stripe: &[u8], from: usize, m: usize) -> Tally
-    requires size { length stripe.now ≡ bytes_of shape.n shape.r shape.e }
+    requires size { length stripe.now ≡ size_of shape }
     requires run { from + m ≤ shape.r + shape.n }
-    ensures { Tallied m (λ v. unbalanced shape.e stripe.now (line (shift shape.n shape.r shape.s) (from + v))) result.count result.first }
+    ensures { Tallied m (λ v. unbalanced shape.e stripe.now (line (layout_of shape) (from + v))) result.count result.first }
 {
     let mut count: usize = 0;
     let mut first = m;
@@ -63,7 +62,7 @@ fn wrong_lines(shape: Shape, stripe: &[u8], from: usize, m: usize) -> Tally
 fn found(shape: Shape, rows: Tally, diagonals: Tally) -> Finding
     requires row { 0 < rows.count → rows.first < shape.r }
     requires diagonal { 0 < diagonals.count → diagonals.first < shape.n }
-    ensures { result ≡ found_of (shift shape.n shape.r shape.s) rows.count rows.first diagonals.count diagonals.first }
+    ensures { result ≡ found_of (layout_of shape) rows.count rows.first diagonals.count diagonals.first }
 {
     let i = rows.first;
     let d = diagonals.first;
@@ -81,8 +80,8 @@ fn found(shape: Shape, rows: Tally, diagonals: Tally) -> Finding
 
 // Scrub of a buffer of the shape's size: each line is listed and read once.
 pub fn scrub_shape(shape: Shape, stripe: &[u8]) -> Counts
-    requires { length stripe.now ≡ bytes_of shape.n shape.r shape.e }
-    ensures { Finds (shift shape.n shape.r shape.s) shape.e stripe.now result }
+    requires { length stripe.now ≡ size_of shape }
+    ensures { Finds (layout_of shape) shape.e stripe.now result }
 {
     let r = shape.r;
     let n = shape.n;

@@ -2,8 +2,7 @@
 #![tactic(auto)]
 
 ghost use Rattle.std.specs.Prelude.{◌≡◌, ◌+◌, ◌-◌, ◌*◌, ◌≤◌, ◌<◌, length, get_or};
-ghost use Rattle.code.specs.Shift.{shift};
-ghost use Rattle.shape.specs.Call.{bytes_of};
+ghost use Rattle.shape.specs.Shape.{layout_of, size_of};
 ghost use Rattle.patch.specs.Written.{written_over};
 ghost use Rattle.patch.specs.Patch.{Touches, Spots, Patched};
 
@@ -21,7 +20,7 @@ struct Touched {
 // The places of row and strip, of their H and of their U.
 fn places(shape: Shape, row: usize, strip: usize) -> Touched
     requires { (row < shape.r) × (strip < shape.n) }
-    ensures { Touches (shift shape.n shape.r shape.s) row strip result }
+    ensures { Touches (layout_of shape) row strip result }
 {
     let n = shape.n;
     let r = shape.r;
@@ -59,9 +58,9 @@ pub fn write_shape(
     offset: usize,
     run: &[u8],
 )
-    requires size { length stripe.old ≡ bytes_of shape.n shape.r shape.e }
+    requires size { length stripe.old ≡ size_of shape }
     requires place { (row < shape.r) × (strip < shape.n) × (offset + length run.now ≤ shape.e) }
-    ensures { stripe.new ≡ written_over (shift shape.n shape.r shape.s) shape.e row strip offset run.now stripe.old }
+    ensures { stripe.new ≡ written_over (layout_of shape) shape.e row strip offset run.now stripe.old }
 {
     let e = shape.e;
     let t = places(shape, row, strip);

@@ -1,6 +1,5 @@
 -- How rebuild meets its contract, from the opened buffer on. Assumes nothing.
 use Rattle.std.specs.Prelude.{◌≡◌, Bool, true, false, List, ℕ, ◌*◌, ◌≤◌, ◌<◌, length, Result, Err, Ok}
-use Rattle.std.proofs.Common.{sym, ap, ◌∙◌, subst}
 use Rattle.code.specs.Below.{count}
 use Rattle.code.specs.Bound.{Good}
 use Rattle.code.specs.Layout.{places}

@@ -1,15 +1,14 @@
 // A strip set to zero: what is lost is no longer read as data. The run of bytes that a strip is, and bytes set to a value, serve others too.
 ghost use Rattle.std.specs.Prelude.{◌≡◌, ◌+◌, ◌*◌, ◌≤◌, length};
-ghost use Rattle.code.specs.Shift.{shift};
 ghost use Rattle.element.specs.Filled.{Filled};
-ghost use Rattle.shape.specs.Call.{bytes_of};
+ghost use Rattle.shape.specs.Shape.{layout_of, size_of};
 ghost use Rattle.rebuild.specs.Clear.{Rows, Clears};
 
 use shape::Shape;
 
 // The rows that a strip stores: the last one has no corner.
 pub fn rows(shape: Shape, strip: usize) -> usize
-    ensures { Rows (shift shape.n shape.r shape.s) strip result }
+    ensures { Rows (layout_of shape) strip result }
 {
     let r = shape.r;
     if strip < shape.n { r + 1 } else { r }
@@ -26,8 +25,8 @@ pub fn fill(stripe: &mut [u8], d: usize, m: usize, value: u8)
 // Every byte of the strip becomes zero; nothing else changes.
 pub fn clear(shape: Shape, strip: usize, stripe: &mut [u8])
     requires strip { strip ≤ shape.n }
-    requires size { length stripe.old ≡ bytes_of shape.n shape.r shape.e }
-    ensures { Clears (shift shape.n shape.r shape.s) shape.e strip stripe.old stripe.new }
+    requires size { length stripe.old ≡ size_of shape }
+    ensures { Clears (layout_of shape) shape.e strip stripe.old stripe.new }
 {
     let m = rows(shape, strip);
     let e = shape.e;

@@ -2,9 +2,8 @@
 ghost use Rattle.std.specs.Prelude.{◌≡◌, false, ℕ, ◌≤◌, length, get_or};
 ghost use Rattle.code.specs.Below.{count};
 ghost use Rattle.code.specs.Layout.{pair};
-ghost use Rattle.code.specs.Shift.{shift};
 ghost use Rattle.code.specs.Bound.{Good};
-ghost use Rattle.shape.specs.Call.{bytes_of};
+ghost use Rattle.shape.specs.Shape.{layout_of, size_of};
 ghost use Rattle.shape.specs.Mask.{lost_in, above_test};
 ghost use Rattle.rebuild.specs.PlanRun.{PlanRun, Mends};
 
@@ -18,9 +17,9 @@ use shape::lost::{first_lost, last_lost};
 fn run(shape: Shape, a: usize, b: usize, stripe: &mut [u8], used: &mut [u8; 64])
     requires good { Good shape.n shape.r shape.s }
     requires strips { (a ≤ b) × (b ≤ shape.n) }
-    requires size { length stripe.old ≡ bytes_of shape.n shape.r shape.e }
+    requires size { length stripe.old ≡ size_of shape }
     requires used { (length used.old ≡ 64) × ((t : ℕ) → get_or used.old t 0 ≡ 0) }
-    ensures { PlanRun (shift shape.n shape.r shape.s) shape.e (pair a b) stripe.old stripe.new used.new }
+    ensures { PlanRun (layout_of shape) shape.e (pair a b) stripe.old stripe.new used.new }
 {
     let map = shape::map::map_of(shape);
     let home = shape::map::homes();
@@ -32,8 +31,8 @@ fn run(shape: Shape, a: usize, b: usize, stripe: &mut [u8], used: &mut [u8; 64])
 fn mend_pair(shape: Shape, a: usize, b: usize, stripe: &mut [u8]) -> bool
     requires good { Good shape.n shape.r shape.s }
     requires strips { (a ≤ b) × (b ≤ shape.n) }
-    requires size { length stripe.old ≡ bytes_of shape.n shape.r shape.e }
-    ensures { Mends (shift shape.n shape.r shape.s) shape.e (pair a b) stripe.old stripe.new result }
+    requires size { length stripe.old ≡ size_of shape }
+    ensures { Mends (layout_of shape) shape.e (pair a b) stripe.old stripe.new result }
 {
     let mut used = [0u8; 64];
     run(shape, a, b, stripe, &mut used);
@@ -50,8 +49,8 @@ fn mend_pair(shape: Shape, a: usize, b: usize, stripe: &mut [u8]) -> bool
 pub fn mend(shape: Shape, stripe: &mut [u8], mask: u64) -> bool
     requires good { Good shape.n shape.r shape.s }
     requires lost { (above_test mask shape.n ≡ false) × (count 64 (lost_in mask) ≤ 2) }
-    requires size { length stripe.old ≡ bytes_of shape.n shape.r shape.e }
-    ensures { Mends (shift shape.n shape.r shape.s) shape.e (lost_in mask) stripe.old stripe.new result }
+    requires size { length stripe.old ≡ size_of shape }
+    ensures { Mends (layout_of shape) shape.e (lost_in mask) stripe.old stripe.new result }
 {
     if mask == 0 {
         let used = [0u8; 64];

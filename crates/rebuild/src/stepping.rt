@@ -1,8 +1,7 @@
 // The steps of a plan run on the bytes, one gather each.
 ghost use Rattle.std.specs.Prelude.{◌≡◌, ℕ, ◌<◌, length, get_or};
-ghost use Rattle.code.specs.Shift.{shift};
 ghost use Rattle.walker.specs.Written.{read, written};
-ghost use Rattle.shape.specs.Call.{bytes_of};
+ghost use Rattle.shape.specs.Shape.{layout_of, size_of};
 ghost use Rattle.rebuild.specs.Running.{Running};
 ghost use Rattle.rebuild.specs.Stepping.{Shaped, Stepped};
 ghost use Rattle.rebuild.specs.SteppingLaws.{Where};
@@ -13,7 +12,7 @@ use walker::{Kind, Plan, Step};
 // The line that a step uses, and which place of the line it builds.
 fn where_built(shape: Shape, step: Step) -> (usize, usize)
     requires shaped { Shaped shape.n shape.r (read step) }
-    ensures { Where (shift shape.n shape.r shape.s) (read step) result.0 result.1 }
+    ensures { Where (layout_of shape) (read step) result.0 result.1 }
 {
     let row = usize::from(step.row);
     let strip = usize::from(step.strip);
@@ -27,9 +26,9 @@ fn where_built(shape: Shape, step: Step) -> (usize, usize)
 // Runs a step, and hands back the line that it used.
 fn run_step(shape: Shape, step: Step, offs: &mut [usize; 33], stripe: &mut [u8]) -> usize
     requires shaped { Shaped shape.n shape.r (read step) }
-    requires size { length stripe.old ≡ bytes_of shape.n shape.r shape.e }
+    requires size { length stripe.old ≡ size_of shape }
     requires room { length offs.old ≡ 33 }
-    ensures stepped { Stepped (shift shape.n shape.r shape.s) shape.e (read step) stripe.old stripe.new result }
+    ensures stepped { Stepped (layout_of shape) shape.e (read step) stripe.old stripe.new result }
     ensures room { length offs.new ≡ 33 }
 {
     let (t, at) = where_built(shape, step);
@@ -40,9 +39,9 @@ fn run_step(shape: Shape, step: Step, offs: &mut [usize; 33], stripe: &mut [u8])
 // Runs the steps of a plan, and marks the lines that they used.
 pub fn run_steps(shape: Shape, plan: &Plan, stripe: &mut [u8], used: &mut [u8; 64])
     requires steps { (u : ℕ) → u < plan.now.count → Shaped shape.n shape.r (written plan.now.steps u) }
-    requires size { length stripe.old ≡ bytes_of shape.n shape.r shape.e }
+    requires size { length stripe.old ≡ size_of shape }
     requires used { (length used.old ≡ 64) × ((t : ℕ) → get_or used.old t 0 ≡ 0) }
-    ensures { Running (shift shape.n shape.r shape.s) shape.e (written plan.now.steps) plan.now.count stripe.old stripe.new used.new }
+    ensures { Running (layout_of shape) shape.e (written plan.now.steps) plan.now.count stripe.old stripe.new used.new }
 {
     let mut offs = [0usize; 33];
     let steps = plan.steps();

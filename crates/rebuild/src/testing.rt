@@ -1,15 +1,14 @@
 // The lines that no step used, tested.
 ghost use Rattle.std.specs.Prelude.{◌≡◌, length};
-ghost use Rattle.code.specs.Shift.{shift};
-ghost use Rattle.shape.specs.Call.{bytes_of};
+ghost use Rattle.shape.specs.Shape.{layout_of, size_of};
 ghost use Rattle.rebuild.specs.Testing.{Tests};
 
 use shape::Shape;
 
 // Whether every line t with used[t] zero sums to zero in every byte.
 pub fn unused_zero(shape: Shape, stripe: &[u8], used: &[u8; 64]) -> bool
-    requires { length stripe.now ≡ bytes_of shape.n shape.r shape.e }
-    ensures { Tests (shift shape.n shape.r shape.s) shape.e used.now stripe.now result }
+    requires { length stripe.now ≡ size_of shape }
+    ensures { Tests (layout_of shape) shape.e used.now stripe.now result }
 {
     let m = shape.r + shape.n;
     let mut offs = [0usize; 33];

@@ -9,7 +9,7 @@ use Rattle.shape.specs.declared.refusal.Refusal.{Refusal}
 use Rattle.shape.specs.declared.refusal.Refusal.TheVariants.{Weak}
 use Rattle.shape.specs.Refusal.{number_of}
 use Rattle.shape.specs.Limits.{limit_number}
-use Rattle.shape.specs.Within.{ShapeOf}
+use Rattle.shape.specs.Shape.{ShapeOf}
 use Rattle.shape.specs.GoodTest.{good_test}
 
 -- lines 1 to 4 are the limits; line 5: a weak shape, one above the published bound

@@ -15,7 +15,8 @@ use Rattle.shape.specs.Refusal.{number_of, refusal_some}
 use Rattle.shape.specs.Call.{Named}
 use Rattle.shape.specs.CallLaws.{named_same}
 use Rattle.shape.specs.Limits.{Limits}
-use Rattle.shape.specs.Within.{ShapeOf, Within}
+use Rattle.shape.specs.Shape.{ShapeOf}
+use Rattle.shape.specs.Within.{Within}
 use Rattle.shape.specs.LimitsLaws.{limits_number}
 use Rattle.shape.specs.WithinLaws.{refused_number, shape_same, of_shape}
 use Rattle.shape.specs.GoodTest.{good_test, good_tested, weak_tested}

@@ -3,11 +3,12 @@
 pub mod Refusal
 pub mod Limits
 pub mod LimitsLaws
-pub mod Within
-pub mod WithinLaws
 pub mod Answers
 pub mod GoodTest
 pub mod Call
+pub mod Shape
+pub mod Within
+pub mod WithinLaws
 pub mod CallLaws
 -- The map of diagonals, and the lost set.
 pub mod Map

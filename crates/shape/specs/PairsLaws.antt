@@ -10,7 +10,7 @@ use Rattle.code.proofs.ShiftLaws.{shift_latin}
 use Rattle.shape.specs.declared.shapes.Shape.{Shape}
 use Rattle.shape.specs.declared.refusal.Refusal.TheVariants.{Weak}
 use Rattle.shape.specs.Limits.{Limits}
-use Rattle.shape.specs.Within.{ShapeOf}
+use Rattle.shape.specs.Shape.{ShapeOf}
 use Rattle.shape.specs.Map.{Filled, Homes}
 use Rattle.shape.specs.MapLaws.{filled_draws}
 use Rattle.shape.specs.Pairs.{MapOf, FirstOf}

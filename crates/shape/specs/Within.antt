@@ -5,13 +5,7 @@ use Rattle.shape.specs.declared.shapes.Shape.{Shape}
 use Rattle.shape.specs.declared.refusal.Refusal.{Refusal}
 use Rattle.shape.specs.Refusal.{number_of}
 use Rattle.shape.specs.Limits.{limit_number}
-
--- h is the shape of the four numbers
-pub record ShapeOf (n r s e : ℕ) (h : Shape) : Type 0 where
-  pub strips : h.n ≡ n
-  pub rows : h.r ≡ r
-  pub shift : h.s ≡ s
-  pub element : h.e ≡ e
+use Rattle.shape.specs.Shape.{ShapeOf}
 
 abbrev pub limited_number : Result Shape Refusal → ℕ
 limited_number (Ok h) = 0

@@ -6,7 +6,8 @@ use Rattle.shape.specs.declared.shapes.Shape.{Shape}
 use Rattle.shape.specs.declared.refusal.Refusal.{Refusal}
 use Rattle.shape.specs.Refusal.{number_of, refusal_some, number_determined}
 use Rattle.shape.specs.Limits.{Limits, limit_number}
-use Rattle.shape.specs.Within.{ShapeOf, limited_number, Within}
+use Rattle.shape.specs.Shape.{ShapeOf}
+use Rattle.shape.specs.Within.{limited_number, Within}
 use Rattle.shape.specs.LimitsLaws.{broken_number}
 
 -- there is one shape of four numbers

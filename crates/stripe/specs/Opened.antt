@@ -4,7 +4,7 @@ use Rattle.code.specs.Bound.{Good}
 use Rattle.shape.specs.declared.shapes.Shape.{Shape}
 use Rattle.shape.specs.declared.refusal.Refusal.{Refusal}
 use Rattle.shape.specs.Limits.{Limits}
-use Rattle.shape.specs.Within.{ShapeOf}
+use Rattle.shape.specs.Shape.{ShapeOf}
 use Rattle.shape.specs.Call.{bytes_of, call_number, Answered}
 
 -- the shape is that of the four numbers, within the limits and the bound, and len is its size

@@ -6,7 +6,7 @@ use Rattle.code.specs.Sum.{table, pick}
 use Rattle.code.specs.Below.{count}
 use Rattle.code.specs.Shift.{shift}
 use Rattle.shape.specs.declared.shapes.Shape.{Shape}
-use Rattle.shape.specs.Within.{ShapeOf}
+use Rattle.shape.specs.Shape.{ShapeOf}
 use Rattle.shape.specs.Mask.{lost_in}
 use Rattle.shape.specs.Call.{bytes_of, call_number}
 use Rattle.finding.specs.Found.{wrong_row, wrong_diagonal}

@@ -2,8 +2,7 @@
 ghost use Rattle.std.specs.Prelude.{◌≡◌, false, ◌*◌, ◌≤◌, length};
 ghost use Rattle.code.specs.Below.{count};
 ghost use Rattle.code.specs.Layout.{pair};
-ghost use Rattle.code.specs.Shift.{shift};
-ghost use Rattle.shape.specs.Call.{bytes_of};
+ghost use Rattle.shape.specs.Shape.{layout_of, size_of};
 ghost use Rattle.shape.specs.Mask.{lost_in, above_test};
 ghost use Rattle.stripebench.specs.Ruin.{Ruins};
 
@@ -14,8 +13,8 @@ use shape::lost::{first_lost, last_lost};
 // Every byte of the strip becomes FF; nothing else changes.
 fn ruin_strip(shape: Shape, strip: usize, stripe: &mut [u8])
     requires strip { strip ≤ shape.n }
-    requires size { length stripe.old ≡ bytes_of shape.n shape.r shape.e }
-    ensures { Ruins (shift shape.n shape.r shape.s) shape.e (pair strip strip) stripe.old stripe.new }
+    requires size { length stripe.old ≡ size_of shape }
+    ensures { Ruins (layout_of shape) shape.e (pair strip strip) stripe.old stripe.new }
 {
     let m = rows(shape, strip);
     let e = shape.e;
@@ -26,8 +25,8 @@ fn ruin_strip(shape: Shape, strip: usize, stripe: &mut [u8])
 // Every byte of the mask's strips, at most two, becomes FF; nothing else changes.
 pub fn ruin(shape: Shape, mask: u64, stripe: &mut [u8])
     requires lost { (above_test mask shape.n ≡ false) × (count 64 (lost_in mask) ≤ 2) }
-    requires size { length stripe.old ≡ bytes_of shape.n shape.r shape.e }
-    ensures { Ruins (shift shape.n shape.r shape.s) shape.e (lost_in mask) stripe.old stripe.new }
+    requires size { length stripe.old ≡ size_of shape }
+    ensures { Ruins (layout_of shape) shape.e (lost_in mask) stripe.old stripe.new }
 {
     if mask == 0 {
         return;
