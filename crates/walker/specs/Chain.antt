@@ -1,5 +1,5 @@
 -- A chain: what holds between two of its steps, and what one step of it leaves. Assumes nothing.
--- g, f == the flags before and after    s == the buffer of steps    k == how many steps it holds
+-- g, f == the flags before and after    s == the steps of the plan    k == how many are written down
 use Rattle.std.specs.Prelude.{ℕ, ◌+◌, ◌<◌, ◌≤◌, ◌≡◌, List, Bool, ◌⊎◌}
 use Rattle.std.proofs.Common.{sym, ap, ◌∙◌, subst, inl, inr, arith}
 use Rattle.code.specs.Layout.{Layout}

@@ -18,7 +18,7 @@ ghost use Rattle.walker.specs.Closing.{BuiltV, BuiltH};
 use crate::lost::{Line, Lost};
 pub use plan::{Kind, Plan, Step};
 
-// What a walk hands back: its plan, and whether the plan builds every lost place. A plan that leaves some is right as far as it goes.
+// What a walk hands back: its plan, and whether the plan builds every lost place. No Option: `Walk` promises the plan that leaves some, too.
 #[derive(Clone, Copy)]
 pub struct Walked {
     pub plan: Plan,
