@@ -31,25 +31,25 @@ fn places(shape: Shape, row: usize, strip: usize) -> Touched
     Touched { x, h, u }
 }
 
-// At most 128 bytes of a write, from byte o of each element on: m bytes of the run, from c on, are the new data at t.x; old and new are
-// added at t.h and t.u.
-fn patch(stripe: &mut [u8], e: usize, t: Touched, o: usize, run: &[u8], c: usize, m: usize)
+// A block of a write, at most 128 bytes, from byte o of each element on: it is the new data at t.x; old and new are added at t.h and t.u.
+fn patch(stripe: &mut [u8], e: usize, t: Touched, o: usize, block: &[u8])
     requires spots { Spots stripe.old e t.x t.h t.u }
-    requires block { (o + m ≤ e) × (c + m ≤ length run.now) × (m ≤ 128) × (1 ≤ e) }
-    ensures { Patched e t.x t.h t.u o m (λ k. get_or run.now (c + (k - o)) 0) stripe.old stripe.new }
+    requires block { (o + length block.now ≤ e) × (length block.now ≤ 128) × (1 ≤ e) }
+    ensures { Patched e t.x t.h t.u o (length block.now) (λ k. get_or block.now (k - o) 0) stripe.old stripe.new }
 {
+    let m = block.len();
     let x = t.x * e + o;
     let h = t.h * e + o;
     let u = t.u * e + o;
-    let d = element::delta(stripe, x, run, c, m);
-    let block = &d[..m];
-    element::add_at(stripe, x, block);
-    element::add_at(stripe, h, block);
-    element::add_at(stripe, u, block);
+    let d = element::delta(stripe, x, block, 0, m);
+    let sum = &d[..m];
+    element::add_at(stripe, x, sum);
+    element::add_at(stripe, h, sum);
+    element::add_at(stripe, u, sum);
 }
 
-// The run written at row, strip and offset, whatever the stripe holds: blocks of 128 bytes, and what is left of the run. Not over the `chunks` of
-// the run: 4096 bytes then cost 6592 instructions, not 2891; nor over its `chunks_exact`: one byte then costs 250, not 244.
+// The run written at row, strip and offset, whatever the stripe holds: blocks of 128 bytes, and what is left of the run. They are not the `chunks` of
+// the run, whose last may be shorter: 4096 bytes then cost 6592 instructions and not 2891, as no block is known to have 128.
 pub fn write_shape(
     shape: Shape,
     stripe: &mut [u8],
@@ -65,13 +65,13 @@ pub fn write_shape(
     let e = shape.e;
     let t = places(shape, row, strip);
     let mut c = 0;
-    while 128 <= run.len() - c {
-        patch(stripe, e, t, offset + c, run, c, 128);
-        c += 128;
+    for block in run.chunks_exact(128) {
+        patch(stripe, e, t, offset + c, block);
+        c += block.len();
     }
-    let m = run.len() - c;
-    let rest = 0 < m;
-    if rest {
-        patch(stripe, e, t, offset + c, run, c, m);
+    let rest = &run[c..];
+    let left = 0 < rest.len();
+    if left {
+        patch(stripe, e, t, offset + c, rest);
     }
 }
