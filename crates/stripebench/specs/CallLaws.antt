@@ -14,26 +14,22 @@ use Rattle.shape.specs.declared.refusal.Answer.{Answer}
 use Rattle.shape.specs.declared.refusal.Answer.TheVariants as answer
 use Rattle.shape.specs.Refusal.{number_of}
 use Rattle.shape.specs.Mask.{lost_in, above_test}
-use Rattle.shape.specs.Call.{call_number, answer_number, Answered}
+use Rattle.shape.specs.Call.{answer_number, Answered}
 use Rattle.shape.specs.JudgedCall.{last_number}
 use Rattle.shape.specs.CallLaws.{done_refused}
-use Rattle.finding.specs.declared.Finding.{Finding}
-use Rattle.stripe.specs.declared.scrubbing.Scrubbed.{Scrubbed}
-use Rattle.stripe.specs.declared.scrubbing.Scrubbed.TheVariants as scrubbed
 use Rattle.stripe.specs.Write.{Writes}
 use Rattle.stripe.specs.WriteNumber.{number_accepted}
 use Rattle.stripe.specs.Read.{read_number, read_part}
 use Rattle.stripe.specs.ReadLaws.{read_length}
-use Rattle.stripe.specs.Scrub.{scrubbed_number, Scrubs}
 use Rattle.rebuild.specs.Rebuild.{rebuild_number, Rebuilds}
 use Rattle.rebuild.specs.RebuildNumber.{Accepted}
 use Rattle.rebuild.proofs.RebuildNumberLaws.{accepted_number}
 use Rattle.rebuild.proofs.RebuildLaws.{rebuild_gives}
 use Rattle.stripebench.specs.declared.replies.Reply.{Reply}
-use Rattle.stripebench.specs.declared.replies.Reply.TheVariants.{Done, One, Two}
+use Rattle.stripebench.specs.declared.replies.Reply.TheVariants.{Done, One}
 use Rattle.stripebench.specs.Numbers.{low_first}
 use Rattle.stripebench.specs.Ruin.{Ruins}
-use Rattle.stripebench.specs.Acting.{write_reply, write_stripe, rebuild_reply, scrub_reply, read_reply}
+use Rattle.stripebench.specs.Acting.{write_reply, write_stripe, rebuild_reply, read_reply}
 use Rattle.stripebench.specs.Holding.{Ready}
 use Rattle.stripebench.specs.Replies.{replied}
 use Rattle.stripebench.specs.ReplyLaws.{replied_done, replied_refused, answered_done, answered_refused}
@@ -84,17 +80,6 @@ module _ (h : Shape) (b s : List ℕ) (i j : ℕ) (is : (i ≡ get_or b 0 0) × 
 
   pub read_refused : (y : Refusal) → x ≡ answer.Refused y → Err (number_of y) ≡ read_reply h b s
   read_refused y q = of_place _ (answered_refused _ _ _ _ _ x w y q)
-
--- ---- scrub
-
-module _ (h : Shape) (s : List ℕ) (x : Scrubbed) (w : Scrubs h.n h.r h.s h.e s x) where
-  pub scrub_counted : (p q : ℕ) (f : Finding) → x ≡ scrubbed.Counted p q f → Ok (Two p q) ≡ scrub_reply h s
-  scrub_counted p q f e =
-      ap₂ (λ (u v : ℕ). Ok (Two u v)) (w.rows p q f e) (w.diagonals p q f e)
-      ∙ replied_done (call_number h.n h.r h.s h.e (length s) 0) _ (sym w.number ∙ ap scrubbed_number e)
-
-  pub scrub_refused : (y : Refusal) → x ≡ scrubbed.Refused y → Err (number_of y) ≡ scrub_reply h s
-  scrub_refused y q = replied_refused (call_number h.n h.r h.s h.e (length s) 0) _ y (sym (ap scrubbed_number q) ∙ w.number)
 
 -- ---- rebuild
 
