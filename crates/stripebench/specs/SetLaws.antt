@@ -14,6 +14,7 @@ use Rattle.shape.specs.declared.Judged.TheVariants as judged
 use Rattle.shape.specs.declared.refusal.Refusal.{Refusal}
 use Rattle.shape.specs.declared.refusal.Refusal.TheVariants.{Length}
 use Rattle.shape.specs.Refusal.{number_of, refusal_some}
+use Rattle.shape.specs.Call.{bytes_of}
 use Rattle.shape.specs.Limits.{Limits}
 use Rattle.shape.specs.Judge.{Judges}
 use Rattle.shape.specs.JudgedCall.{refused_answered, good_limits, good_good, last_number}
@@ -59,6 +60,12 @@ filled_zeros m room after l f =
     long = length-take-le m after (omega (arith, f.long))
 
 -- ---- judge's answer
+
+-- what holds of the four numbers holds of their shape
+of_shape : (P : ℕ → ℕ → ℕ → ℕ → Type 0) (n r s e : ℕ) (h : Shape) → ShapeOf n r s e h → P n r s e → P h.n h.r h.s h.e
+of_shape P n r s e h w p =
+    subst (λ (u : ℕ). P u h.r h.s h.e) (sym w.strips)
+    (subst (λ (u : ℕ). P n u h.s h.e) (sym w.rows) (subst (λ (u : ℕ). P n r u h.e) (sym w.shift) (subst (λ (u : ℕ). P n r s u) (sym w.element) p)))
 
 module _ (b : List ℕ) (c : Option Shape) (room : List ℕ) where
   -- a refused shape leaves all as it was
@@ -109,8 +116,17 @@ module _ (b : List ℕ) (c : Option Shape) (room : List ℕ) where
         none = number false (le-ltb 32768 (size_in b) (omega (arith, same, hold.long)))
 
         module _ (after : List ℕ) (f : Filled room 0 m (λ k. 0) after) where
+          numbers : ShapeOf (n_in b) (r_in b) (s_in b) (e_in b) g
+          numbers =
+              record {
+                strips = ap (λ (u : Shape). u.n) (j.good g m q).0;
+                rows = ap (λ (u : Shape). u.r) (j.good g m q).0;
+                shift = ap (λ (u : Shape). u.s) (j.good g m q).0;
+                element = ap (λ (u : Shape). u.e) (j.good g m q).0;
+              }
+
           size : size_of g ≡ m
-          size = ap size_of (j.good g m q).0 ∙ sym same
+          size = of_shape (λ (n r s e : ℕ). bytes_of n r e ≡ m) _ _ _ _ g numbers (sym same)
 
           begins : take (size_of g) after ≡ zeros (size_of g)
           begins = ap (λ (k : ℕ). take k after) size ∙ filled_zeros m room after l f ∙ ap zeros (sym size)
@@ -118,8 +134,7 @@ module _ (b : List ℕ) (c : Option Shape) (room : List ℕ) where
           ready : Ready g (take (size_of g) after)
           ready =
               subst (λ (s : List ℕ). Ready g s) (sym begins)
-              (zeros_ready g (subst (λ (u : Shape). Limits u.n u.r u.s u.e) (sym (j.good g m q).0) limits)
-              (subst (λ (u : Shape). bound.Good u.n u.r u.s) (sym (j.good g m q).0) good))
+              (zeros_ready g (of_shape Limits _ _ _ _ g numbers limits) (of_shape (λ (n r s e : ℕ). bound.Good n r s) _ _ _ _ g numbers good))
 
           pub holds_good : Holds (Some g) after
           holds_good =
@@ -140,12 +155,3 @@ module _ (b : List ℕ) (c : Option Shape) (room : List ℕ) where
                     begins ∙ ap zeros (size ∙ same)
                     ∙ sym (ap (λ (u : Bool). pick u (zeros (size_in b)) (stripe_of c room)) (eq-eqb (set_number b) 0 none));
               }
-            where
-              numbers : ShapeOf (n_in b) (r_in b) (s_in b) (e_in b) g
-              numbers =
-                  record {
-                    strips = ap (λ (u : Shape). u.n) (j.good g m q).0;
-                    rows = ap (λ (u : Shape). u.r) (j.good g m q).0;
-                    shift = ap (λ (u : Shape). u.s) (j.good g m q).0;
-                    element = ap (λ (u : Shape). u.e) (j.good g m q).0;
-                  }
