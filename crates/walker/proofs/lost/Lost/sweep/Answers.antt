@@ -7,25 +7,25 @@ pub loop-i-init : goal.loop-i-init
 loop-i-init c =
     swept_none c.requires
 
-pub follow-requires : goal.follow-requires
-follow-requires c =
-    record { line = c.loop-i-test.true; state = c.loop-i.invariant.state }
+pub row_step-requires : goal.row_step-requires
+row_step-requires c =
+    record { row = c.loop-i-test.true; state = c.loop-i.invariant.state }
 
 pub loop-i-preserved : goal.loop-i-preserved
 loop-i-preserved c =
-    row_passed c.loop-i.invariant c.follow.ensures
+    row_passed c.loop-i.invariant c.row_step.ensures
 
 pub loop-d-init : goal.loop-d-init
 loop-d-init c =
     swept_end (omega arith) (omega arith) c.loop-i.invariant
 
-pub follow-requires-in-loop-d : goal.follow-requires-in-loop-d
-follow-requires-in-loop-d c =
-    record { line = c.loop-d-test.true; state = c.loop-d.invariant.state }
+pub diagonal_step-requires : goal.diagonal_step-requires
+diagonal_step-requires c =
+    record { diagonal = c.loop-d-test.true; state = c.loop-d.invariant.state }
 
 pub loop-d-preserved : goal.loop-d-preserved
 loop-d-preserved c =
-    diagonal_passed c.loop-d.invariant c.follow-in-loop-d.ensures
+    diagonal_passed c.loop-d.invariant c.diagonal_step.ensures
 
 pub returns : goal.returns
 returns c =
