@@ -5,13 +5,6 @@ use Rattle.code.specs.Layout.{Layout}
 use Rattle.code.specs.Live.{Line, row, diagonal, On, Lone}
 use Rattle.walker.specs.Flags.{Marked}
 
--- n data strips, r rows, and the lost strips a and b, where a = b if one is lost
-pub record Case (n r a b : ℕ) : Type 0 where
-  pub strips : n ≤ 32
-  pub rows : r ≤ 32
-  pub ordered : a ≤ b
-  pub within : b ≤ n
-
 -- a line of the layout
 abbrev pub Among : Layout → Line → Type 0
 Among L (row i) = i < L.r

@@ -1,23 +1,17 @@
 // What the walker sees: two lost strips over the map of diagonals, and the lines that its chains go by.
-ghost use Rattle.std.specs.Prelude.{◌<◌};
-ghost use Rattle.code.specs.Layout.{Fair};
-ghost use Rattle.code.specs.Drawn.{drawn};
-ghost use Rattle.walker.specs.Search.{Case};
+ghost use Rattle.std.specs.Prelude.{◌<◌, ◌≤◌};
 
+use crate::map::Map;
 use crate::plan::Kind;
 
-// Of n data strips and strip n the strips a and b are lost, which are one where a = b. The map says the diagonal of each of the r rows in each
-// data strip, and home the strip that stores each diagonal's U.
+// Of the map's data strips and strip n the strips a and b are lost, which are one where a = b.
 #[derive(Clone, Copy)]
 pub struct Lost<'a> {
-    pub map: &'a [[u8; 32]; 32],
-    pub home: &'a [u8; 32],
-    pub n: usize,
-    pub r: usize,
+    pub map: &'a Map,
     pub a: usize,
     pub b: usize,
-    pub ghost case: { Case n r a b },
-    pub ghost fair: { Fair (drawn map.now home.now n r) },
+    pub ghost ordered: { a ≤ b },
+    pub ghost within: { b ≤ map.now.n },
 }
 
 // A row or a diagonal.
@@ -50,11 +44,11 @@ impl Lost<'_> {
 
     // The other line through the element of row i in strip j, which lies on the line.
     pub fn across(&self, line: Line, i: usize, j: usize) -> Line
-        requires { (i < self.now.r) × (j < self.now.n) × On (layout self.now) (line_of line) i j }
+        requires { (i < self.now.map.now.r) × (j < self.now.map.now.n) × On (layout self.now) (line_of line) i j }
         ensures { Crossed (layout self.now) (line_of line) i j (line_of result) }
     {
         match line {
-            Line::Row(_) => Line::Diagonal(usize::from(self.map[i][j])),
+            Line::Row(_) => Line::Diagonal(usize::from(self.map.diagonals[i][j])),
             Line::Diagonal(_) => Line::Row(i),
         }
     }
