@@ -1,19 +1,35 @@
--- Laws of the map of diagonals: how it is filled, row by row, and that it draws the shift family. Assumes nothing.
+-- Laws of the map of diagonals: how it is filled, row by row, and that it draws the layout of its shape. Assumes nothing.
 use Rattle.std.specs.Prelude.{ℕ, ◌+◌, ◌-◌, ◌*◌, ◌%◌, ◌<◌, ◌≤◌, ◌≡◌, ◌⊎◌, List, [], ◌++◌, length, get_or, take, drop, replicate}
-use Rattle.std.proofs.Common.{sym, ap, ◌∙◌, inl, inr, mod-eq_of_lt, arith, length-take-le}
+use Rattle.std.proofs.Common.{sym, ap, ap₂, ◌∙◌, inl, inr, mod-eq_of_lt, arith, length-take-le}
 use Rattle.std.proofs.Math.Decide.{dec_lt}
 use Rattle.std.proofs.Math.Nat.{mod-add-mod}
 use Rattle.std.proofs.lemmas.List.{length-replicate, get_or-replicate, get_or-drop, get_or-append_right}
 use Rattle.std.proofs.Math.ListN.{get_or-eq_default, get_or-append}
-use Rattle.code.specs.Drawn.{cell, Draws}
+use Rattle.code.specs.Drawn.{cell, drawn, Draws}
+use Rattle.code.specs.DrawnLaws.{drawn_fair}
+use Rattle.code.specs.Layout.{Fair}
 use Rattle.code.specs.Shift.{diagonal, shift}
+use Rattle.walker.specs.Map.{drawn_by}
+use Rattle.walker.specs.declared.map.Map.{Map}
+use Rattle.shape.specs.declared.shapes.Shape.{Shape}
 use Rattle.shape.specs.Limits.{Limits}
+use Rattle.shape.specs.LimitsLaws.{limits_fair}
+use Rattle.shape.specs.Shape.{layout_of}
 use Rattle.shape.specs.Answers.{Among, front_enough}
-use Rattle.shape.specs.Map.{Turned, Filled, Homes}
+use Rattle.shape.specs.Map.{Turned, Filled, Homes, Maps}
 
 -- the map and the homes draw the shift family's layout
 pub filled_draws : (g : List (List ℕ)) (h : List ℕ) (n r s : ℕ) → n ≤ 32 → Filled g n r s → Homes h → Draws g h (shift n r s)
 filled_draws g h n r s l f o = record { diagonals = f.at; homes = λ d ld. o.at d (omega arith) }
+
+-- so what they draw is fair
+pub filled_fair : (k : Shape) {g : List (List ℕ)} {h : List ℕ} → Filled g k.n k.r k.s → Homes h → Fair (drawn g h k.n k.r)
+filled_fair k {g} {h} f o =
+    drawn_fair g h (layout_of k) (limits_fair k.n k.r k.s _ k.limits) (filled_draws g h k.n k.r k.s k.limits.n_high f o)
+
+-- a shape's map draws by the shape's numbers
+pub maps_drawn : {k : Shape} {m : Map} → Maps k m → drawn_by m ≡ drawn m.diagonals m.homes k.n k.r
+maps_drawn {k} {m} x = ap₂ (drawn m.diagonals m.homes) x.strips x.rows
 
 -- all of 32 from 0 on are the homes
 pub turned_homes : (h : List ℕ) → Turned h 0 32 32 → Homes h

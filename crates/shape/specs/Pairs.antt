@@ -1,18 +1,10 @@
--- What the pair judge asks of a map, and what it answers. Assumes nothing.
-use Rattle.std.specs.Prelude.{ℕ, ◌+◌, ◌<◌, ◌≤◌, ◌≡◌, List, Option, Some, None}
+-- What the pair judge answers. Assumes nothing.
+use Rattle.std.specs.Prelude.{ℕ, ◌+◌, ◌<◌, ◌≤◌, ◌≡◌, Option, Some, None}
 use Rattle.std.proofs.Common.{sym, subst, inl, inr, arith}
 use Rattle.std.proofs.Math.Decide.{ℕ_discrete}
 use Rattle.code.specs.Bound.{Before, FirstPair}
 use Rattle.code.specs.Code.{Decided, Fails}
-use Rattle.code.specs.Drawn.{drawn}
-use Rattle.code.specs.Layout.{Layout, Fair, Latin, code, pair}
-
--- the map draws a layout that is fair, and in which no strip has a diagonal twice
-pub record MapOf (m : List (List ℕ)) (h : List ℕ) (n r : ℕ) : Type 0 where
-  pub strips : n ≤ 32
-  pub rows : r ≤ 32
-  pub fair : Fair (drawn m h n r)
-  pub latin : Latin (drawn m h n r)
+use Rattle.code.specs.Layout.{Layout, code, pair}
 
 -- every pair of the strips 0 .. n is decided by the rest
 pub record NoPair (L : Layout) : Type 0 where

@@ -3,7 +3,7 @@ use Rattle.std.specs.Prelude.{ℕ, ◌+◌, ◌*◌, ◌≤◌, ◌≡◌, List,
 use Rattle.std.proofs.Common.{subst, arith}
 use Rattle.code.specs.Alike.{fails_alike, decided_alike}
 use Rattle.code.specs.Drawn.{drawn, Draws}
-use Rattle.code.specs.DrawnLaws.{drawn_fair, drawn_latin, drawn_alike}
+use Rattle.code.specs.DrawnLaws.{drawn_latin, drawn_alike}
 use Rattle.code.specs.Layout.{Layout, Fair, Latin, code, pair}
 use Rattle.code.specs.Shift.{shift}
 use Rattle.code.proofs.ShiftLaws.{shift_latin}
@@ -13,15 +13,12 @@ use Rattle.shape.specs.Limits.{Limits}
 use Rattle.shape.specs.Shape.{ShapeOf}
 use Rattle.shape.specs.Map.{Filled, Homes}
 use Rattle.shape.specs.MapLaws.{filled_draws}
-use Rattle.shape.specs.Pairs.{MapOf, FirstOf}
+use Rattle.shape.specs.Pairs.{FirstOf}
 use Rattle.shape.specs.Judge.{Judges}
 use Rattle.shape.specs.JudgeLaws.{judges_weak, judges_good, no_pair_good}
 use Rattle.shape.specs.LimitsLaws.{limits_fair}
 
 module _ (m : List (List ℕ)) (h : List ℕ) (L : Layout) (F : Fair L) (x : Draws m h L) where
-  map_of_draws : L.n ≤ 32 → L.r ≤ 32 → Latin L → MapOf m h L.n L.r
-  map_of_draws ln lr l = record { strips = ln; rows = lr; fair = drawn_fair m h L F x; latin = drawn_latin m h L F x l }
-
   first_drawn : (f : Option (ℕ × ℕ)) → FirstOf (drawn m h L.n L.r) f → FirstOf L f
   first_drawn (Some (a, b)) y =
       record {
@@ -37,10 +34,10 @@ module _ (g : List (List ℕ)) (h : List ℕ) (n r s e : ℕ) (l : Limits n r s 
   fair : Fair (shift n r s)
   fair = limits_fair n r s _ l
 
-  -- a filled map is what the pair judge asks for
-  pub shape_map : r ≤ n → Filled g n r s → Homes h → MapOf g h n r
-  shape_map lr f o =
-      map_of_draws g h (shift n r s) fair (filled_draws g h n r s l.n_high f o) l.n_high l.r_high (shift_latin n r s (omega (arith, l.n_low)) lr)
+  -- a filled map with no more rows than strips is what the pair judge asks for
+  pub shape_latin : r ≤ n → Filled g n r s → Homes h → Latin (drawn g h n r)
+  shape_latin lr f o =
+      drawn_latin g h (shift n r s) fair (filled_draws g h n r s l.n_high f o) (shift_latin n r s (omega (arith, l.n_low)) lr)
 
   module _ (f : Filled g n r s) (o : Homes h) (x : Option (ℕ × ℕ)) (y : FirstOf (drawn g h n r) x) where
     of_shape : (z : Option (ℕ × ℕ)) → x ≡ z → FirstOf (shift n r s) z

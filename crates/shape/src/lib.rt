@@ -47,9 +47,7 @@ fn judge_pairs(shape: Shape) -> Result<(Shape, usize), Refusal>
     requires { shape.r ≤ shape.n }
     ensures { Judges shape.n shape.r shape.s shape.e result }
 {
-    let map = map::map_of(shape);
-    let home = map::homes();
-    match pairs::first_failing(map, home, shape.n, shape.r) {
+    match pairs::first_failing(map::map_of(shape)) {
         Some((a, b)) => Err(Refusal::Weak(a, b)),
         None => Ok((shape, shape.size())),
     }

@@ -1,9 +1,10 @@
-// The whole map of diagonals, rows by strips, as one value, and the strips that store their parities.
+// The map of diagonals of a shape: each row and strip's diagonal, and the strips that store their parities.
 ghost use Rattle.std.specs.Prelude.{◌+◌, ◌%◌, ◌<◌, ◌≤◌};
 ghost use Rattle.shape.specs.Answers.{Among};
-ghost use Rattle.shape.specs.Map.{Turned, Filled, Homes};
+ghost use Rattle.shape.specs.Map.{Turned, Filled, Homes, Maps};
 
 use crate::shapes::Shape;
+use walker::Map;
 
 // The diagonal after d, round the n of them.
 fn next(d: usize, n: usize) -> usize
@@ -29,7 +30,7 @@ fn turned(d: usize, n: usize) -> [u8; 32]
 }
 
 // Every row is the one above it turned by one, so one division finds them all.
-pub fn map_of(shape: Shape) -> [[u8; 32]; 32]
+fn diagonals_of(shape: Shape) -> [[u8; 32]; 32]
     ensures { Filled result shape.n shape.r shape.s }
 {
     let n = shape.n;
@@ -43,8 +44,20 @@ pub fn map_of(shape: Shape) -> [[u8; 32]; 32]
 }
 
 // The strip that stores the parity of diagonal d is strip d.
-pub fn homes() -> [u8; 32]
+fn homes() -> [u8; 32]
     ensures { Homes result }
 {
     turned(0, 32)
+}
+
+// The map of a shape.
+pub fn map_of(shape: Shape) -> Map
+    ensures { Maps shape result }
+{
+    Map {
+        diagonals: diagonals_of(shape),
+        homes: homes(),
+        n: shape.n,
+        r: shape.r,
+    }
 }

@@ -1,30 +1,29 @@
 // The pair judge: whether two strips of a map of diagonals fail, told by the walker; and the first pair that does.
 ghost use Rattle.std.specs.Prelude.{◌<◌, ◌≤◌};
-ghost use Rattle.code.specs.Drawn.{drawn};
+ghost use Rattle.code.specs.Layout.{Latin};
 ghost use Rattle.code.specs.Stopped.{Exact};
-ghost use Rattle.shape.specs.Pairs.{MapOf, FirstOf};
+ghost use Rattle.walker.specs.Map.{drawn_by};
+ghost use Rattle.shape.specs.Pairs.{FirstOf};
 
-// Does the pair of strips (a, b) fail? The map and the homes go in by value; b is a data strip or strip n.
-pub fn fails(map: [[u8; 32]; 32], home: [u8; 32], n: usize, r: usize, a: usize, b: usize) -> bool
-    requires { (a < b) × (b ≤ n) × MapOf map home n r }
-    ensures { Exact (drawn map home n r) a b result }
+use walker::Map;
+
+// Does the pair of strips (a, b) fail? b is a data strip or strip n. No strip of the map has a diagonal twice.
+pub fn fails(map: &Map, a: usize, b: usize) -> bool
+    requires pair { (a < b) × (b ≤ map.now.n) }
+    requires latin { Latin (drawn_by map.now) }
+    ensures { Exact (drawn_by map.now) a b result }
 {
-    !walker::walk(&map, &home, n, r, a, b).whole
+    !walker::walk(map, a, b).whole
 }
 
-// The first pair of the strips 0 to n that fails, by lower strip, then by upper strip.
-pub fn first_failing(
-    map: [[u8; 32]; 32],
-    home: [u8; 32],
-    n: usize,
-    r: usize,
-) -> Option<(usize, usize)>
-    requires { MapOf map home n r }
-    ensures { FirstOf (drawn map home n r) result }
+// The first pair of the strips 0 to n that fails, by lower strip, then by upper strip. The map goes in by value (SPEC 12).
+pub fn first_failing(map: Map) -> Option<(usize, usize)>
+    requires { Latin (drawn_by map) }
+    ensures { FirstOf (drawn_by map) result }
 {
-    for a in 0..n {
-        for b in a + 1..n + 1 {
-            if fails(map, home, n, r, a, b) {
+    for a in 0..map.n {
+        for b in a + 1..map.n + 1 {
+            if fails(&map, a, b) {
                 return Some((a, b));
             }
         }

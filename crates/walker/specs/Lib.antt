@@ -3,6 +3,7 @@
 pub mod Tally
 pub mod Flags
 pub mod Written
+pub mod Map
 pub mod Search
 pub mod Lines
 pub mod SearchLaws

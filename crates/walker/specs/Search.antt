@@ -5,12 +5,6 @@ use Rattle.code.specs.Layout.{Layout}
 use Rattle.code.specs.Live.{Line, Lone}
 use Rattle.walker.specs.Flags.{Marked}
 
--- n data strips, r rows, and the lost strips a and b, where a = b if one is lost
-pub record Case (n r a b : ℕ) : Type 0 where
-  pub strips : n ≤ 32
-  pub rows : r ≤ 32
-  pub ordered : a ≤ b
-  pub within : b ≤ n
 
 -- whether strip c has data, and that of row i lies on diagonal d and is not flagged
 pub record OpenAt (D : ℕ → ℕ → ℕ) (n : ℕ) (g : List (List Bool)) (c d i : ℕ) (t : Bool) : Type 0 where

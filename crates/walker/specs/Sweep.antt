@@ -12,7 +12,7 @@ use Rattle.code.specs.Walk.{Walk}
 use Rattle.walker.specs.declared.plan.Step.{Step}
 use Rattle.walker.specs.Flags.{Marked, clear, clear_board, clear_unmarked, unknowns_most, unknowns_strip}
 use Rattle.walker.specs.Written.{written}
-use Rattle.walker.specs.Search.{Case, Gap}
+use Rattle.walker.specs.Search.{Gap}
 use Rattle.walker.specs.Chain.{State, Stepped}
 
 -- the first x rows and the first d diagonals give nothing
@@ -24,11 +24,11 @@ pub record Swept (L : Layout) (lost : ℕ → Bool) (g : List (List Bool)) (s : 
 -- ---- laws
 
 -- nothing is built yet
-pub begin : (L : Layout) (a b : ℕ) → Case L.n L.r a b → (s : List Step) (k : ℕ) → k ≡ 0 → State L (pair a b) clear s k
-begin L a b c s k z =
+pub begin : (L : Layout) (a b : ℕ) → L.n ≤ 32 → L.r ≤ 32 → (s : List Step) (k : ℕ) → k ≡ 0 → State L (pair a b) clear s k
+begin L a b ln lr s k z =
     record {
-      board = clear_board L c.rows c.strips;
-      room = omega (arith, unknowns_most L a b clear, c.rows, z);
+      board = clear_board L lr ln;
+      room = omega (arith, unknowns_most L a b clear, lr, z);
       right = record { right = λ u l. absurd (omega (arith, l, z)) };
       inside = λ i j m. absurd (clear_unmarked i j m);
       to = λ i j m. absurd (clear_unmarked i j m);

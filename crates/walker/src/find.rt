@@ -13,17 +13,17 @@ impl Lost<'_> {
     // Is the element of row i in strip c on diagonal d and not built? Strip n has no data.
     fn open_at(&self, built: &[[bool; 32]; 32], c: usize, d: usize, i: usize) -> bool
         requires { i < 32 }
-        ensures { OpenAt (cell self.now.map.now) self.now.n built.now c d i result }
+        ensures { OpenAt (cell self.now.map.now.diagonals) self.now.map.now.n built.now c d i result }
     {
-        c < self.n && usize::from(self.map[i][c]) == d && !built[i][c]
+        c < self.map.n && usize::from(self.map.diagonals[i][c]) == d && !built[i][c]
     }
 
     // The first unknown element of diagonal d, from row `from` on: its row and its strip.
     fn next_on(&self, built: &[[bool; 32]; 32], d: usize, from: usize) -> Option<(usize, usize)>
-        requires { from ≤ self.now.r }
-        ensures { NextOn (cell self.now.map.now) self.now.n self.now.r (lost self.now) built.now d from result }
+        requires { from ≤ self.now.map.now.r }
+        ensures { NextOn (cell self.now.map.now.diagonals) self.now.map.now.n self.now.map.now.r (lost self.now) built.now d from result }
     {
-        for i in from..self.r {
+        for i in from..self.map.r {
             if self.open_at(built, self.a, d, i) {
                 return Some((i, self.a));
             }
@@ -36,10 +36,10 @@ impl Lost<'_> {
 
     // The one unknown element of diagonal d, where the diagonal is live and has exactly one.
     pub fn lone_on_diagonal(&self, built: &[[bool; 32]; 32], d: usize) -> Option<(usize, usize)>
-        requires { d < self.now.n }
+        requires { d < self.now.map.now.n }
         ensures { FoundOn (layout self.now) (lost self.now) built.now (diagonal d) result }
     {
-        let u = usize::from(self.home[d]);
+        let u = usize::from(self.map.homes[d]);
         let upper = u == self.b;
         if u == self.a || upper {
             return None;
@@ -53,10 +53,10 @@ impl Lost<'_> {
 
     // The one unknown element of row i, where the row is live and has exactly one.
     pub fn lone_in_row(&self, built: &[[bool; 32]; 32], i: usize) -> Option<(usize, usize)>
-        requires { i < self.now.r }
+        requires { i < self.now.map.now.r }
         ensures { FoundOn (layout self.now) (lost self.now) built.now (row i) result }
     {
-        if self.b == self.n {
+        if self.b == self.map.n {
             return None;
         }
         match (built[i][self.a], built[i][self.b]) {
@@ -69,10 +69,10 @@ impl Lost<'_> {
 
     // Is every element of strip c built? Strip n has no data.
     pub fn strip_built(&self, built: &[[bool; 32]; 32], c: usize) -> bool
-        requires { c ≤ self.now.n }
-        ensures { StripBuilt self.now.n self.now.r built.now c result }
+        requires { c ≤ self.now.map.now.n }
+        ensures { StripBuilt self.now.map.now.n self.now.map.now.r built.now c result }
     {
-        c == self.n || built_in(&built[..self.r], c)
+        c == self.map.n || built_in(&built[..self.map.r], c)
     }
 }
 

@@ -3,20 +3,21 @@
 
 mod find;
 mod lost;
+mod map;
 mod plan;
 
 ghost use Rattle.std.specs.Prelude.{◌+◌, ◌<◌, ◌≤◌};
-ghost use Rattle.code.specs.Layout.{Fair, pair};
-ghost use Rattle.code.specs.Drawn.{drawn};
+ghost use Rattle.code.specs.Layout.{pair};
 ghost use Rattle.code.specs.Live.{row, diagonal};
 ghost use Rattle.code.specs.Walk.{Walk};
 ghost use Rattle.walker.specs.Written.{written};
-ghost use Rattle.walker.specs.Search.{Case};
+ghost use Rattle.walker.specs.Map.{drawn_by};
 ghost use Rattle.walker.specs.Chain.{State, Stepped};
 ghost use Rattle.walker.specs.Sweep.{Swept};
 ghost use Rattle.walker.specs.Closing.{BuiltV, BuiltH};
 
 use crate::lost::Lost;
+pub use map::Map;
 pub use plan::{Kind, Plan, Step};
 
 // What a walk hands back: its plan, and whether the plan builds every lost place. No Option: `Walk` promises the plan that leaves some, too.
@@ -41,7 +42,7 @@ impl Lost<'_> {
     // Builds the one unknown element of row i, if it has one, and goes on by the diagonal of that element.
     #[cycle(chain)]
     fn row_step(&self, i: usize, so_far: &mut Progress)
-        requires row { i < self.now.r }
+        requires row { i < self.now.map.now.r }
         requires state { State (layout self.now) (lost self.now) so_far.old.built so_far.old.plan.steps so_far.old.plan.count }
         ensures { Stepped (layout self.now) (lost self.now) (row i) so_far.old.built so_far.new.built so_far.new.plan.steps so_far.new.plan.count }
     {
@@ -50,13 +51,13 @@ impl Lost<'_> {
         };
         so_far.built[h][l] = true;
         so_far.plan.push(Kind::ByRow, h, l);
-        self.diagonal_step(usize::from(self.map[h][l]), so_far);
+        self.diagonal_step(usize::from(self.map.diagonals[h][l]), so_far);
     }
 
     // Builds the one unknown element of diagonal d, if it has one, and goes on by the row of that element.
     #[cycle(chain)]
     fn diagonal_step(&self, d: usize, so_far: &mut Progress)
-        requires diagonal { d < self.now.n }
+        requires diagonal { d < self.now.map.now.n }
         requires state { State (layout self.now) (lost self.now) so_far.old.built so_far.old.plan.steps so_far.old.plan.count }
         ensures { Stepped (layout self.now) (lost self.now) (diagonal d) so_far.old.built so_far.new.built so_far.new.plan.steps so_far.new.plan.count }
     {
@@ -71,12 +72,12 @@ impl Lost<'_> {
     // Follows the chains that start at a row, then those that start at a diagonal.
     fn sweep(&self, so_far: &mut Progress)
         requires { State (layout self.now) (lost self.now) so_far.old.built so_far.old.plan.steps so_far.old.plan.count }
-        ensures { Swept (layout self.now) (lost self.now) so_far.new.built so_far.new.plan.steps so_far.new.plan.count self.now.r self.now.n }
+        ensures { Swept (layout self.now) (lost self.now) so_far.new.built so_far.new.plan.steps so_far.new.plan.count self.now.map.now.r self.now.map.now.n }
     {
-        for i in 0..self.r {
+        for i in 0..self.map.r {
             self.row_step(i, so_far);
         }
-        for d in 0..self.n {
+        for d in 0..self.map.n {
             self.diagonal_step(d, so_far);
         }
     }
@@ -84,46 +85,39 @@ impl Lost<'_> {
     // The steps for the lost U, each by its diagonal.
     fn build_v(&self, plan: &mut Plan)
         requires { plan.old.count ≤ 64 }
-        ensures { BuiltV self.now.n self.now.r self.now.a self.now.b plan.old.steps plan.old.count plan.new.steps plan.new.count }
+        ensures { BuiltV self.now.map.now.n self.now.map.now.r self.now.a self.now.b plan.old.steps plan.old.count plan.new.steps plan.new.count }
     {
-        if self.a == self.n {
+        if self.a == self.map.n {
             return;
         }
-        plan.push(Kind::U, self.r, self.a);
-        if self.b == self.n || self.a == self.b {
+        plan.push(Kind::U, self.map.r, self.a);
+        if self.b == self.map.n || self.a == self.b {
             return;
         }
-        plan.push(Kind::U, self.r, self.b);
+        plan.push(Kind::U, self.map.r, self.b);
     }
 
     // The steps for the H, each by its row, where strip n is lost.
     fn build_h(&self, plan: &mut Plan)
-        requires { self.now.n ≤ self.now.b → plan.old.count + self.now.r ≤ 66 }
-        ensures { BuiltH self.now.n self.now.r self.now.b plan.old.steps plan.old.count plan.new.steps plan.new.count }
+        requires { self.now.map.now.n ≤ self.now.b → plan.old.count + self.now.map.now.r ≤ 66 }
+        ensures { BuiltH self.now.map.now.n self.now.map.now.r self.now.b plan.old.steps plan.old.count plan.new.steps plan.new.count }
     {
-        if self.b < self.n {
+        if self.b < self.map.n {
             return;
         }
-        for h in 0..self.r {
-            plan.push(Kind::H, h, self.n);
+        for h in 0..self.map.r {
+            plan.push(Kind::H, h, self.map.n);
         }
     }
 }
 
 // Follows every chain of the lost strips a and b, where a = b if one is lost, and writes the steps down.
 // Where they build all lost data, a step for every lost U and H follows.
-pub fn walk(map: &[[u8; 32]; 32], home: &[u8; 32], n: usize, r: usize, a: usize, b: usize) -> Walked
-    requires { Case n r a b × Fair (drawn map.now home.now n r) }
-    ensures { Walk (drawn map.now home.now n r) (pair a b) (written result.plan.steps) result.plan.count result.whole }
+pub fn walk(map: &Map, a: usize, b: usize) -> Walked
+    requires { (a ≤ b) × (b ≤ map.now.n) }
+    ensures { Walk (drawn_by map.now) (pair a b) (written result.plan.steps) result.plan.count result.whole }
 {
-    let lost = Lost {
-        map,
-        home,
-        n,
-        r,
-        a,
-        b,
-    };
+    let lost = Lost { map, a, b };
     let mut so_far = Progress {
         built: [[false; 32]; 32],
         plan: Plan::new(),

@@ -5,4 +5,4 @@ use Rattle.shape.proofs.pairs.fails.Goals as goal
 
 pub returns : goal.returns
 returns c =
-    walk_exact _ c.requires.2.fair c.requires.2.latin _ _ _ _ _ c.walk.ensures
+    walk_exact _ c.args.map.now.fair c.requires.latin _ _ _ _ _ c.walk.ensures

@@ -17,7 +17,7 @@ push-requires c =
 
 pub loop-h-preserved : goal.loop-h-preserved
 loop-h-preserved c =
-    h_more c.loop-h.invariant (omega (arith, c.args.self.now.case.within)) c.loop-h-test.true c.push.ensures
+    h_more c.loop-h.invariant (omega (arith, c.args.self.now.within)) c.loop-h-test.true c.push.ensures
 
 pub returns : goal.returns
 returns c =

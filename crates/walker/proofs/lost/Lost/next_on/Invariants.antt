@@ -6,4 +6,4 @@ use Rattle.walker.specs.Search.{Passed}
 use Rattle.walker.proofs.lost.Lost.next_on.Given as goal
 
 abbrev pub invariant-loop-i : goal.invariant-loop-i
-invariant-loop-i l = (l.from ≤ l.i) × Passed (cell l.self.map.now) l.self.n (lost l.self) l.built l.d l.from l.i
+invariant-loop-i l = (l.from ≤ l.i) × Passed (cell l.self.map.now.diagonals) l.self.map.now.n (lost l.self) l.built l.d l.from l.i

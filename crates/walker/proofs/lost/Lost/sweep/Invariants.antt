@@ -7,4 +7,4 @@ abbrev pub invariant-loop-i : goal.invariant-loop-i
 invariant-loop-i l = Swept (layout l.self) (lost l.self) l.so_far.built l.so_far.plan.steps l.so_far.plan.count l.i 0
 
 abbrev pub invariant-loop-d : goal.invariant-loop-d
-invariant-loop-d l = Swept (layout l.self) (lost l.self) l.so_far.built l.so_far.plan.steps l.so_far.plan.count l.self.r l.d
+invariant-loop-d l = Swept (layout l.self) (lost l.self) l.so_far.built l.so_far.plan.steps l.so_far.plan.count l.self.map.now.r l.d

@@ -1,8 +1,8 @@
--- `map_of` meets its contract: the rows passed are filled, and d starts the next. Assumes nothing.
+-- `diagonals_of` meets its contract: the rows passed are filled, and d starts the next. Assumes nothing.
 use Rattle.std.proofs.Common.{ℕ, ◌+◌, ◌%◌, ◌<◌, [], get_or}
 use Rattle.shape.specs.Answers.{Among}
 use Rattle.shape.specs.Map.{Turned}
-use Rattle.shape.proofs.map.map_of.Given as goal
+use Rattle.shape.proofs.map.diagonals_of.Given as goal
 
 abbrev pub invariant-loop-row : goal.invariant-loop-row
 invariant-loop-row l = record {
