@@ -11,7 +11,7 @@ row_step-diagonal_step-requires t c =
     let x = c.in-Some.ensures in (
       omega (arith, fall S x, c.decreases),
       (
-        omega (arith, c.from.ensures, c.args.self.now.fair.diagonal_lt _ _ x.row_below x.strip_below),
+        omega (arith, c.from.ensures, c.args.self.now.map.now.fair.diagonal_lt _ _ x.row_below x.strip_below),
         taken S x c.push.ensures (row_right x),
       ),
     )
