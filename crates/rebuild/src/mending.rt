@@ -12,6 +12,7 @@ use crate::stepping::run_steps;
 use crate::testing::unused_zero;
 use shape::Shape;
 use shape::lost::{first_lost, last_lost};
+use shape::map::map_of;
 
 // The walker's plan for the strips a and b, run on the bytes; the lines that it used are marked.
 fn run(shape: Shape, a: usize, b: usize, stripe: &mut [u8], used: &mut [u8; 64])
@@ -21,9 +22,8 @@ fn run(shape: Shape, a: usize, b: usize, stripe: &mut [u8], used: &mut [u8; 64])
     requires used { (length used.old ≡ 64) × ((t : ℕ) → get_or used.old t 0 ≡ 0) }
     ensures { PlanRun (layout_of shape) shape.e (pair a b) stripe.old stripe.new used.new }
 {
-    let map = shape::map::map_of(shape);
-    let home = shape::map::homes();
-    let plan = walker::walk(&map, &home, shape.n, shape.r, a, b).plan;
+    let map = map_of(shape);
+    let plan = walker::walk(&map, a, b).plan;
     run_steps(shape, &plan, stripe, used);
 }
 

@@ -1,14 +1,16 @@
 -- Laws of the map of diagonals: how it is filled, row by row, and that it draws the layout of its shape. Assumes nothing.
-use Rattle.std.specs.Prelude.{ℕ, ◌+◌, ◌-◌, ◌*◌, ◌%◌, ◌<◌, ◌≤◌, ◌≡◌, ◌⊎◌, List, [], ◌++◌, length, get_or, take, drop, replicate}
-use Rattle.std.proofs.Common.{sym, ap, ap₂, ◌∙◌, inl, inr, mod-eq_of_lt, arith, length-take-le}
+use Rattle.std.specs.Prelude.{ℕ, Bool, ◌+◌, ◌-◌, ◌*◌, ◌%◌, ◌<◌, ◌≤◌, ◌≡◌, ◌⊎◌, List, [], ◌++◌, length, get_or, take, drop, replicate}
+use Rattle.std.proofs.Common.{sym, ap, ap₂, ◌∙◌, subst, inl, inr, mod-eq_of_lt, arith, length-take-le}
 use Rattle.std.proofs.Math.Decide.{dec_lt}
 use Rattle.std.proofs.Math.Nat.{mod-add-mod}
 use Rattle.std.proofs.lemmas.List.{length-replicate, get_or-replicate, get_or-drop, get_or-append_right}
 use Rattle.std.proofs.Math.ListN.{get_or-eq_default, get_or-append}
 use Rattle.code.specs.Drawn.{cell, drawn, Draws}
 use Rattle.code.specs.DrawnLaws.{drawn_fair}
-use Rattle.code.specs.Layout.{Fair}
+use Rattle.code.specs.Layout.{Layout, Fair}
 use Rattle.code.specs.Shift.{diagonal, shift}
+use Rattle.code.specs.Steps.{Written}
+use Rattle.code.specs.Walk.{Walk}
 use Rattle.walker.specs.Map.{drawn_by}
 use Rattle.walker.specs.declared.map.Map.{Map}
 use Rattle.shape.specs.declared.shapes.Shape.{Shape}
@@ -30,6 +32,11 @@ filled_fair k {g} {h} f o =
 -- a shape's map draws by the shape's numbers
 pub maps_drawn : {k : Shape} {m : Map} → Maps k m → drawn_by m ≡ drawn m.diagonals m.homes k.n k.r
 maps_drawn {k} {m} x = ap₂ (drawn m.diagonals m.homes) x.strips x.rows
+
+-- and so does a walk over it
+pub maps_walk : {k : Shape} {m : Map} {lost : ℕ → Bool} {w : ℕ → Written} {c : ℕ} {t : Bool} → Maps k m
+    → Walk (drawn_by m) lost w c t → Walk (drawn m.diagonals m.homes k.n k.r) lost w c t
+maps_walk {k} {m} {lost} {w} {c} {t} x = subst (λ (L : Layout). Walk L lost w c t) (maps_drawn x)
 
 -- all of 32 from 0 on are the homes
 pub turned_homes : (h : List ℕ) → Turned h 0 32 32 → Homes h

@@ -4,6 +4,7 @@ ghost use Rattle.walker.specs.Written.{read, written};
 ghost use Rattle.rebuild.specs.Stepping.{Shaped};
 
 use shape::Shape;
+use shape::map::map_of;
 use walker::{Kind, Plan, Step};
 
 // The line that a step uses: its row, its diagonal, or the diagonal whose U the strip stores.
@@ -36,9 +37,8 @@ fn mark(shape: Shape, plan: &Plan) -> [u8; 64]
 pub(crate) fn used_lines(shape: Shape, a: usize, b: usize) -> [u8; 64]
     requires strips { (a ≤ b) × (b ≤ shape.n) }
 {
-    let map = shape::map::map_of(shape);
-    let home = shape::map::homes();
-    let plan = walker::walk(&map, &home, shape.n, shape.r, a, b).plan;
+    let map = map_of(shape);
+    let plan = walker::walk(&map, a, b).plan;
     mark(shape, &plan)
 }
 
