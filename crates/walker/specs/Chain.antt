@@ -1,10 +1,10 @@
 -- A chain: what holds between two of its steps, and what one step of it leaves. Assumes nothing.
 -- g, f == the flags before and after    s == the steps of the plan    k == how many are written down
 use Rattle.std.specs.Prelude.{ℕ, ◌+◌, ◌<◌, ◌≤◌, ◌≡◌, List, Bool, ◌⊎◌}
-use Rattle.std.proofs.Common.{sym, subst, inl, inr, arith}
+use Rattle.std.proofs.Common.{sym, ap, ◌∙◌, subst, inl, inr, arith}
 use Rattle.code.specs.Layout.{Layout}
-use Rattle.code.specs.Live.{Line, On, Lone}
-use Rattle.code.specs.LiveLaws.{Adds, lone_used, goes_on}
+use Rattle.code.specs.Live.{Line, row, diagonal, On, Lone}
+use Rattle.code.specs.LiveLaws.{Adds, through, lone_used, goes_on}
 use Rattle.code.specs.Steps.{BuiltAt, RightStep, RightSteps}
 use Rattle.walker.specs.declared.plan.Step.{Step}
 use Rattle.walker.specs.Flags.{Marked, Board, put, put_board, put_adds, unknowns, unknowns_fall}
@@ -26,6 +26,21 @@ pub record Stepped (L : Layout) (lost : ℕ → Bool) (K : Line) (g f : List (Li
   pub opened : (M : Line) (i j : ℕ) → Lone L lost (Marked f) M i j → Lone L lost (Marked g) M i j
 
 -- ---- laws
+
+-- the two lines through an element, the row first and the diagonal first
+pub row_first : (L : Layout) (x d i j : ℕ) → i ≡ x → d ≡ L.diagonal i j → (K : Line) → On L K i j → (K ≡ row x) ⊎ (K ≡ diagonal d)
+row_first L x d i j e f K o = go (through L i j K o)
+  where
+    go : (K ≡ row i) ⊎ (K ≡ diagonal (L.diagonal i j)) → (K ≡ row x) ⊎ (K ≡ diagonal d)
+    go (inl p) = inl (p ∙ ap row e)
+    go (inr p) = inr (p ∙ ap diagonal (sym f))
+
+pub diagonal_first : (L : Layout) (d i j : ℕ) → L.diagonal i j ≡ d → (K : Line) → On L K i j → (K ≡ diagonal d) ⊎ (K ≡ row i)
+diagonal_first L d i j e K o = go (through L i j K o)
+  where
+    go : (K ≡ row i) ⊎ (K ≡ diagonal (L.diagonal i j)) → (K ≡ diagonal d) ⊎ (K ≡ row i)
+    go (inl p) = inr p
+    go (inr p) = inl (p ∙ ap diagonal e)
 
 module _ {L : Layout} {lost : ℕ → Bool} {K : Line} {g : List (List Bool)} {s : List Step} {k i j : ℕ} (S : State L lost g s k)
     (x : Lone L lost (Marked g) K i j) where
