@@ -51,10 +51,6 @@ module _ {L : Layout} {lost : ℕ → Bool} {K : Line} {g : List (List Bool)} {s
   pub fall : unknowns L lost (put g i j) < unknowns L lost g
   fall = unknowns_fall L lost g (put g i j) i j adds x.row_below x.strip_below x.is_lost x.new
 
-  -- there is room for the step
-  pub space : k < 64
-  space = omega (arith, fall, S.room)
-
   -- the step is taken
   pub taken : {t : List Step} {e kind : ℕ} → Recorded s k kind i j t e → RightStep L lost (Marked g) (step kind i j) → State L lost (put g i j) t e
   taken {t} {e} {kind} w ok =

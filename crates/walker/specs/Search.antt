@@ -5,7 +5,6 @@ use Rattle.code.specs.Layout.{Layout}
 use Rattle.code.specs.Live.{Line, Lone}
 use Rattle.walker.specs.Flags.{Marked}
 
-
 -- whether strip c has data, and that of row i lies on diagonal d and is not flagged
 pub record OpenAt (D : ℕ → ℕ → ℕ) (n : ℕ) (g : List (List Bool)) (c d i : ℕ) (t : Bool) : Type 0 where
   pub below : t ≡ true → c < n
