@@ -22,7 +22,6 @@ run_steps-requires c =
     record {
       steps = walk_shaped _ _ _ _ _ c.walk.ensures;
       size = c.requires.size;
-      used = c.requires.used;
     }
 
 pub returns : goal.returns
