@@ -1,5 +1,5 @@
 // The steps of a plan run on the bytes, one gather each.
-ghost use Rattle.std.specs.Prelude.{◌≡◌, ℕ, ◌<◌, length, get_or};
+ghost use Rattle.std.specs.Prelude.{◌≡◌, ℕ, ◌<◌, length};
 ghost use Rattle.walker.specs.Written.{read, written};
 ghost use Rattle.shape.specs.Shape.{layout_of, size_of};
 ghost use Rattle.rebuild.specs.Running.{Running};
@@ -37,16 +37,17 @@ fn run_step(shape: Shape, step: Step, offs: &mut [usize; 33], stripe: &mut [u8])
 }
 
 // Runs the steps of a plan, and marks the lines that they used.
-pub fn run_steps(shape: Shape, plan: &Plan, stripe: &mut [u8], used: &mut [u8; 64])
+pub fn run_steps(shape: Shape, plan: &Plan, stripe: &mut [u8]) -> [bool; 64]
     requires steps { (u : ℕ) → u < plan.now.count → Shaped shape.n shape.r (written plan.now.steps u) }
     requires size { length stripe.old ≡ size_of shape }
-    requires used { (length used.old ≡ 64) × ((t : ℕ) → get_or used.old t 0 ≡ 0) }
-    ensures { Running (layout_of shape) shape.e (written plan.now.steps) plan.now.count stripe.old stripe.new used.new }
+    ensures { Running (layout_of shape) shape.e (written plan.now.steps) plan.now.count stripe.old stripe.new result }
 {
+    let mut used = [false; 64];
     let mut offs = [0usize; 33];
     let steps = plan.steps();
     for step in steps {
         let t = run_step(shape, *step, &mut offs, stripe);
-        used[t] = 1;
+        used[t] = true;
     }
+    used
 }

@@ -1,13 +1,14 @@
 -- `run_steps` meets its contract: the steps so far have run, and their lines are marked. Assumes nothing.
-use Rattle.std.proofs.Common.{rules, arith, ◌<◌, subst}
+use Rattle.std.proofs.Common.{rules, arith, ◌<◌, subst, refl}
 use Rattle.walker.specs.Written.{step_of}
 use Rattle.rebuild.specs.Stepping.{Shaped}
+use Rattle.rebuild.proofs.PlanRunLaws.{no_marks}
 use Rattle.rebuild.proofs.RunningLaws.{running_none, running_more}
 use Rattle.rebuild.proofs.stepping.run_steps.Goals as goal
 
 pub loop-step-init : goal.loop-step-init
 loop-step-init c =
-    (running_none _ _ _ _ _ c.requires.used.0 c.requires.used.1, search rules)
+    (running_none _ _ _ _ _ refl (no_marks 64), search rules)
 
 pub run_step-t-requires-clause-shaped : goal.run_step-t-requires-clause-shaped
 run_step-t-requires-clause-shaped c =
