@@ -6,6 +6,7 @@ ghost use Rattle.rebuild.specs.Running.{Running};
 ghost use Rattle.rebuild.specs.Stepping.{Shaped, Stepped};
 ghost use Rattle.rebuild.specs.SteppingLaws.{Where};
 
+use lines::Listing;
 use shape::Shape;
 use walker::{Kind, Plan, Step};
 
@@ -24,15 +25,13 @@ fn where_built(shape: Shape, step: Step) -> (usize, usize)
 }
 
 // Runs a step, and hands back the line that it used.
-fn run_step(shape: Shape, step: Step, offs: &mut [usize; 33], stripe: &mut [u8]) -> usize
+fn run_step(shape: Shape, step: Step, listing: &mut Listing, stripe: &mut [u8]) -> usize
     requires shaped { Shaped shape.n shape.r (read step) }
     requires size { length stripe.old ≡ size_of shape }
-    requires room { length offs.old ≡ 33 }
-    ensures stepped { Stepped (layout_of shape) shape.e (read step) stripe.old stripe.new result }
-    ensures room { length offs.new ≡ 33 }
+    ensures { Stepped (layout_of shape) shape.e (read step) stripe.old stripe.new result }
 {
     let (t, at) = where_built(shape, step);
-    lines::build(shape, t, at, offs, stripe);
+    lines::build(shape, t, at, listing, stripe);
     t
 }
 
@@ -43,10 +42,10 @@ pub fn run_steps(shape: Shape, plan: &Plan, stripe: &mut [u8]) -> [bool; 64]
     ensures { Running (layout_of shape) shape.e (written plan.now.steps) plan.now.count stripe.old stripe.new result }
 {
     let mut used = [false; 64];
-    let mut offs = [0usize; 33];
+    let mut listing = Listing::new();
     let steps = plan.steps();
     for step in steps {
-        let t = run_step(shape, *step, &mut offs, stripe);
+        let t = run_step(shape, *step, &mut listing, stripe);
         used[t] = true;
     }
     used
