@@ -65,7 +65,7 @@ module _ (L : Layout) (e : ℕ) (lost same : ℕ → Bool) (eq : (j : ℕ) → l
 
 -- ---- where nothing is lost
 
-pub mends_none : (L : Layout) → Fair L → (e : ℕ) (lost : ℕ → Bool) → ((j : ℕ) → lost j ≡ false) → (s used : List ℕ) → Stripe L e s → ((t : ℕ) → get_or used t 0 ≡ 0)
+pub mends_none : (L : Layout) → Fair L → (e : ℕ) (lost : ℕ → Bool) → ((j : ℕ) → lost j ≡ false) → (s : List ℕ) (used : List Bool) → Stripe L e s → ((t : ℕ) → get_or used t false ≡ false)
     → (x : Bool) → Tests L e used s x → Mends L e lost s s x
 mends_none L F e lost none s used bytes clean x y =
     record {

@@ -1,21 +1,12 @@
 -- `run` meets its contract: on a good shape the walk leaves nothing, and its steps are a right and complete plan. Assumes nothing.
-use Rattle.std.proofs.Common.{arith}
 use Rattle.shape.specs.MapLaws.{maps_walk}
 use Rattle.rebuild.specs.SteppingLaws.{walk_shaped}
 use Rattle.rebuild.specs.WholePlan.{whole_plan}
 use Rattle.rebuild.proofs.mending.run.Goals as goal
 
-pub walk-requires : goal.walk-requires
-walk-requires c =
-    (c.requires.strips.0, omega (arith, c.map_of-map.ensures.strips, c.requires.strips.1))
-
-pub run_steps-requires : goal.run_steps-requires
-run_steps-requires c =
-    record {
-      steps = walk_shaped _ _ _ _ _ (maps_walk c.map_of-map.ensures c.walk.ensures);
-      size = c.requires.size;
-      used = c.requires.used;
-    }
+pub run_steps-requires-clause-steps : goal.run_steps-requires-clause-steps
+run_steps-requires-clause-steps c =
+    walk_shaped _ _ _ _ _ (maps_walk c.map_of-map.ensures c.walk.ensures)
 
 pub returns : goal.returns
 returns c =

@@ -3,6 +3,6 @@ use Rattle.shape.specs.LimitsLaws.{limits_fair}
 use Rattle.rebuild.specs.SteppingLaws.{builds_stepped}
 use Rattle.rebuild.proofs.stepping.run_step.Goals as goal
 
-pub returns-clause-stepped : goal.returns-clause-stepped
-returns-clause-stepped c =
-    builds_stepped _ (limits_fair _ _ _ _ c.args.shape.limits) _ _ _ _ c.where_built-t.ensures _ _ c.build.ensures.builds
+pub returns : goal.returns
+returns c =
+    builds_stepped _ (limits_fair _ _ _ _ c.args.shape.limits) _ _ _ _ c.where_built-t.ensures _ _ c.build.ensures
