@@ -13,7 +13,8 @@ pub fn unused_zero(shape: Shape, stripe: &[u8], used: &[bool; 64]) -> bool
     let m = shape.r + shape.n;
     let mut offs = [0usize; 33];
     for t in 0..m {
-        if !used[t] && lines::wrong_line(shape, stripe, t, &mut offs) {
+        let unused = !used[t];
+        if unused && lines::wrong_line(shape, stripe, t, &mut offs) {
             return false;
         }
     }

@@ -2,22 +2,22 @@
 use Rattle.std.proofs.Common.{arith, sym, ap, ◌∙◌, length}
 use Rattle.rebuild.specs.TestingLaws.{passed_used, passed_right, wrong_tests}
 use Rattle.rebuild.proofs.testing.unused_zero.Goals as goal
-use Rattle.rebuild.proofs.testing.unused_zero.Goals.{else-not-used-t-via-then-not-used-t+else-wrong_line, else-not-used-t-via-else-not-used-t}
+use Rattle.rebuild.proofs.testing.unused_zero.Goals.{else-unused-via-then-unused+else-wrong_line, else-unused-via-else-unused}
 
 pub returns-then-wrong_line : goal.returns-then-wrong_line
 returns-then-wrong_line c =
-    wrong_tests _ _ _ _ _ (omega arith) c.if-not-used-t.true (sym c.wrong_line.ensures.value ∙ c.if-wrong_line.true)
+    wrong_tests _ _ _ _ _ (omega arith) c.if-unused.true (sym c.wrong_line.ensures.value ∙ c.if-wrong_line.true)
 
 pub loop-t-preserved : goal.loop-t-preserved
 loop-t-preserved c =
     let inv = c.loop-t.invariant in
-    elim c.else-not-used-t.branch [
-      | else-not-used-t-via-then-not-used-t+else-wrong_line w ↦ record {
+    elim c.else-unused.branch [
+      | else-unused-via-then-unused+else-wrong_line w ↦ record {
         passed = passed_right _ _ _ _ _ (sym w.wrong_line.ensures.value ∙ w.if-wrong_line.false) inv.passed;
         room = ap length w.offs-is ∙ w.wrong_line.ensures.room;
       }
-      | else-not-used-t-via-else-not-used-t w ↦ record {
-        passed = passed_used _ _ _ _ _ w.if-not-used-t.false inv.passed;
+      | else-unused-via-else-unused w ↦ record {
+        passed = passed_used _ _ _ _ _ w.if-unused.false inv.passed;
         room = ap length w.offs-is ∙ inv.room;
       }
     ]
