@@ -37,8 +37,8 @@ module _ (L : Layout) (e a b : ℕ) (s t u : List ℕ) (x : Clears L e a s t) (y
   both_zero p k lp lk z = go (ℕ_discrete (strip_of (height L) p) b) (pair_yes a b (strip_of (height L) p) z)
     where
       go : Dec (strip_of (height L) p ≡ b) → (strip_of (height L) p ≡ a) ⊎ (strip_of (height L) p ≡ b) → at u e k p ≡ 0
-      go (yes q) w = y.zero p k lp lk q
-      go (no ne) (inl q) = y.kept p k lk ne ∙ x.zero p k lp lk q
+      go (yes q) w = y.filled p k lp lk q
+      go (no ne) (inl q) = y.kept p k lk ne ∙ x.filled p k lp lk q
       go (no ne) (inr q) = absurd (ne q)
 
 -- ---- one name of the lost set and another

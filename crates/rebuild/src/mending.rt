@@ -7,7 +7,7 @@ ghost use Rattle.shape.specs.Shape.{layout_of, size_of};
 ghost use Rattle.shape.specs.Mask.{lost_in, above_test};
 ghost use Rattle.rebuild.specs.PlanRun.{PlanRun, Mends};
 
-use crate::clearing::clear;
+use crate::clearing::fill_strip;
 use crate::stepping::run_steps;
 use crate::testing::unused_zero;
 use shape::Shape;
@@ -37,8 +37,8 @@ fn mend_pair(shape: Shape, a: usize, b: usize, stripe: &mut [u8]) -> bool
     if unused_zero(shape, stripe, &used) {
         return true;
     }
-    clear(shape, a, stripe);
-    clear(shape, b, stripe);
+    fill_strip(shape, a, 0, stripe);
+    fill_strip(shape, b, 0, stripe);
     false
 }
 

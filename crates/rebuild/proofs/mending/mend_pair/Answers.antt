@@ -18,19 +18,19 @@ returns-then-unused_zero c =
       cleared = λ z. clash (sym z);
     }
 
-pub clear-requires : goal.clear-requires
-clear-requires c =
+pub fill_strip-requires : goal.fill_strip-requires
+fill_strip-requires c =
     record { strip = omega arith; size = ran_size _ (limits_fair _ _ _ _ c.args.shape.limits) _ _ _ _ _ c.run-used.ensures ∙ c.requires.size }
 
-pub clear-requires-2 : goal.clear-requires-2
-clear-requires-2 c =
-    record { strip = omega arith; size = c.clear.ensures.size ∙ ran_size _ (limits_fair _ _ _ _ c.args.shape.limits) _ _ _ _ _ c.run-used.ensures ∙ c.requires.size }
+pub fill_strip-requires-2 : goal.fill_strip-requires-2
+fill_strip-requires-2 c =
+    record { strip = omega arith; size = c.fill_strip.ensures.size ∙ ran_size _ (limits_fair _ _ _ _ c.args.shape.limits) _ _ _ _ _ c.run-used.ensures ∙ c.requires.size }
 
 pub returns : goal.returns
 returns c =
     let failed = c.unused_zero.ensures.failed (search rules) in
-    let first = c.clear.ensures in
-    let second = c.clear-2.ensures in
+    let first = c.fill_strip.ensures in
+    let second = c.fill_strip-2.ensures in
     record {
       mended = λ z. clash z;
       cleared = λ z. ran_cleared _ (limits_fair _ _ _ _ c.args.shape.limits) _ _ _ _ _ c.run-used.ensures failed.t failed.byte failed.is_line failed.in_element failed.wrong _
