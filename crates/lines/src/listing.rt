@@ -34,7 +34,7 @@ impl Listing {
     ghost use Rattle.std.specs.Prelude.{◌-◌, length, get_or, set, take};
     ghost use Rattle.lines.specs.Listed.{Listed};
 
-    // Room for a line, with nothing in it. A loop makes it once and lists each of its lines there, so that it is cleared once.
+    // Room for a line, with nothing in it. A loop makes it once and lists each of its lines there, so that it is cleared once and not for every line.
     pub fn new() -> Listing {
         Listing {
             starts: [0; 33],
@@ -52,6 +52,7 @@ impl Listing {
         let e = shape.e;
         let step = h * e;
         let mut o = i * e;
+        // By number: tried with `iter_mut`, and what that loop leaves in a field of a struct with a ghost field has no name in a proof.
         for v in 0..m {
             self.starts[v] = o;
             o += step;
@@ -71,6 +72,7 @@ impl Listing {
         let wrap = start(shape, 1, shape.n - 1);
         let j = shape.meets(0, d);
         let mut o = start(shape, 0, j);
+        // By number, as in `row`.
         for i in 0..r {
             self.starts[i] = o;
             o = if back <= o { o - back } else { o + wrap };
@@ -92,7 +94,7 @@ impl Listing {
         }
     }
 
-    // Takes the start at v out of the list and hands it back; the last one takes its room.
+    // Takes the start at v out and hands it back; the last one takes its room, as in `Vec`.
     pub fn swap_remove(&mut self, v: usize) -> usize
         requires { v < self.old.count }
         ensures its { result ≡ get_or self.old.starts v 0 }
