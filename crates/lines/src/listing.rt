@@ -35,7 +35,9 @@ impl Listing {
     ghost use Rattle.lines.specs.Listed.{Listed};
 
     // Room for a line, with nothing in it. A loop makes it once and lists each of its lines there, so that it is cleared once and not for every line.
-    pub fn new() -> Listing {
+    pub fn new() -> Listing
+        ensures { result.count ≡ 0 }
+    {
         Listing {
             starts: [0; 33],
             count: 0,

@@ -42,6 +42,8 @@ fn mend_pair(shape: Shape, a: usize, b: usize, stripe: &mut [u8]) -> bool
     false
 }
 
+// Good stays a clause of the three functions of this file: a type for it is a struct, its literal and a proof that Good has one proof at most.
+
 // The strips of the mask mended: true, and the one sound stripe that agrees with the survivors; or false, and the lost strips cleared, since
 // there is none. A caller with room of its own can mend a copy there.
 pub fn mend(shape: Shape, stripe: &mut [u8], mask: u64) -> bool
