@@ -1,4 +1,5 @@
 // Mend: the plan of the lost strips is run, the lines that it did not use are tested, and where one is wrong the lost strips are cleared.
+// Good stays a clause of the three functions here: a type for it is a struct, its literal and a proof that Good has one proof at most.
 ghost use Rattle.std.specs.Prelude.{◌≡◌, false, ◌≤◌, length};
 ghost use Rattle.code.specs.Below.{count};
 ghost use Rattle.code.specs.Layout.{pair};
@@ -41,8 +42,6 @@ fn mend_pair(shape: Shape, a: usize, b: usize, stripe: &mut [u8]) -> bool
     fill_strip(shape, b, 0, stripe);
     false
 }
-
-// Good stays a clause of the three functions of this file: a type for it is a struct, its literal and a proof that Good has one proof at most.
 
 // The strips of the mask mended: true, and the one sound stripe that agrees with the survivors; or false, and the lost strips cleared, since
 // there is none. A caller with room of its own can mend a copy there.
