@@ -28,19 +28,24 @@ total_kept s os e d k t i h l p q =
     q.outside (get_or os j 0 + i)
     (⊎_elim (λ x. inl (omega arith)) (λ x. inr (omega arith)) (p.each j lt)))
 
+pub gathered_then : (s os : List ℕ) (e d k m : ℕ) (t a u : List ℕ) → k + m ≤ e → Apart e d os → Gathered s k d os t
+    → Begins m (λ i. total t os (k + i)) a → Filled t (d + k) m (λ i. get_or a i 0) u → Gathered s (k + m) d os u
+gathered_then s os e d k m t a u h p g q f =
+    filled_then s d k m (total s os) (λ i. get_or a i 0) t u
+    (λ i lt. q.each i lt ∙ total_kept s os e d k t (k + i) (omega arith) (omega arith) p g) g f
+
 -- the run a, put after the k bytes that stand
-pub gathered_then : (s os : List ℕ) (e d k l : ℕ) (t a u : List ℕ) → l ≡ k + length a → l ≤ e → Apart e d os → Gathered s k d os t
+pub gathered_run : (s os : List ℕ) (e d k l : ℕ) (t a u : List ℕ) → l ≡ k + length a → l ≤ e → Apart e d os → Gathered s k d os t
     → Begins (length a) (λ i. total t os (k + i)) a → Filled t (d + k) (length a) (λ i. get_or a i 0) u → Gathered s l d os u
-gathered_then s os e d k l t a u c h p g q f =
+gathered_run s os e d k l t a u c h p g q f =
     filled_same s d (k + length a) l (total s os) (total s os) u (sym c) (λ i lt. refl)
-    (filled_then s d k (length a) (total s os) (λ i. get_or a i 0) t u
-    (λ i lt. q.each i lt ∙ total_kept s os e d k t (k + i) (omega arith) (omega arith) p g) g f)
+    (gathered_then s os e d k (length a) t a u (omega arith) p g q f)
 
 -- the same of a block
 pub gathered_block : (s os : List ℕ) (e d k l : ℕ) (t a u : List ℕ) → l ≡ k + 128 → length a ≡ 128 → l ≤ e → Apart e d os → Gathered s k d os t
     → Begins 128 (λ i. total t os (k + i)) a → Filled t (d + k) (length a) (λ i. get_or a i 0) u → Gathered s l d os u
 gathered_block s os e d k l t a u c y h p g q f =
-    gathered_then s os e d k l t a u (omega arith) h p g (run_whole (λ i. total t os (k + i)) 128 a y q) f
+    gathered_run s os e d k l t a u (omega arith) h p g (run_whole (λ i. total t os (k + i)) 128 a y q) f
 
 -- ---- zero, one after the other and run after run
 
@@ -51,18 +56,18 @@ zero_none f = record { each = λ k lt. absurd (not-suc-le-zero lt) }
 pub zero_part : (e l : ℕ) (f : ℕ → ℕ) → l ≤ e → Zero e f → Zero l f
 zero_part e l f h p = record { each = λ k lt. p.each k (omega arith) }
 
--- a run of k, and after it the run a
-pub zero_then : (f : ℕ → ℕ) (k l : ℕ) (a : List ℕ) → l ≡ k + length a → Zero k f → Begins (length a) (λ t. f (k + t)) a
-    → Zero (length a) (λ t. get_or a t 0) → Zero l f
-zero_then f k l a h p q z = record { each = λ i lt. go i (omega arith) (dec_lt i k) }
+-- a run of k, and after it one of m, which a begins with
+pub zero_then : (f : ℕ → ℕ) (k m : ℕ) (a : List ℕ) → Zero k f → Begins m (λ t. f (k + t)) a → Zero m (λ t. get_or a t 0) → Zero (k + m) f
+zero_then f k m a p q z = record { each = λ i lt. go i lt (dec_lt i k) }
   where
-    go : (i : ℕ) → i < k + length a → Dec (i < k) → f i ≡ 0
+    go : (i : ℕ) → i < k + m → Dec (i < k) → f i ≡ 0
     go i lt (yes x) = p.each i x
     go i lt (no x) = let y : i ≡ k + (i - k) = omega arith in ap f y ∙ sym (q.each (i - k) (omega arith)) ∙ z.each (i - k) (omega arith)
 
 pub zero_block : (f : ℕ → ℕ) (k l : ℕ) (a : List ℕ) → l ≡ k + 128 → length a ≡ 128 → Zero k f → Begins 128 (λ t. f (k + t)) a
     → Zero (length a) (λ t. get_or a t 0) → Zero l f
-zero_block f k l a c y p q z = zero_then f k l a (omega arith) p (run_whole (λ t. f (k + t)) 128 a y q) z
+zero_block f k l a c y p q z =
+    zero_part (k + length a) l f (omega arith) (zero_then f k (length a) a p (run_whole (λ t. f (k + t)) 128 a y q) z)
 
 -- ---- the test of a block
 
@@ -97,12 +102,12 @@ or_tells xs = record { yes = λ e. (or_zero xs 0 (eqb-true _ _ e)).1; no = λ z.
 pub tells_yes : (s os : List ℕ) (e k : ℕ) → e ≤ k → Zero k (total s os) → Tells s e os true
 tells_yes s os e k h z = record { yes = λ x. zero_part k e (total s os) h z; no = λ y. refl }
 
--- the last run decides
-pub tells_last : (s os : List ℕ) (e k : ℕ) (a : List ℕ) (r : Bool) → e ≡ k + length a → Zero k (total s os)
-    → Begins (length a) (λ t. total s os (k + t)) a → AllZero (length a) (λ t. get_or a t 0) r → Tells s e os r
-tells_last s os e k a r h p q n =
+-- the last block decides
+pub tells_last : (s os : List ℕ) (e k m : ℕ) (a : List ℕ) (r : Bool) → k + m ≡ e → Zero k (total s os) → Begins m (λ t. total s os (k + t)) a
+    → AllZero m (λ t. get_or a t 0) r → Tells s e os r
+tells_last s os e k m a r h p q n =
     record {
-      yes = λ x. zero_then (total s os) k e a h p q (n.yes x);
+      yes = λ x. zero_part (k + m) e (total s os) (omega arith) (zero_then (total s os) k m a p q (n.yes x));
       no = λ z. n.no (record { each = λ t lt. q.each t lt ∙ z.each (k + t) (omega arith) });
     }
 

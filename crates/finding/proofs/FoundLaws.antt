@@ -1,7 +1,7 @@
 -- What the counts find: a wrong rows, the first of them i, and b wrong diagonals, the first of them d. Assumes nothing.
-use Rattle.std.specs.Prelude.{◌≡◌, Bool, List, ℕ, eqb}
+use Rattle.std.specs.Prelude.{◌≡◌, Bool, ◌⊎◌, List, ℕ, ◌≤◌, eqb}
 use Rattle.std.proofs.Math.Path.{refl}
-use Rattle.std.proofs.Common.{◌∙◌, arith, eq-eqb, ne_eqb, eqb-true}
+use Rattle.std.proofs.Common.{◌∙◌, inl, inr, arith, eq-eqb, ne_eqb, eqb-true}
 use Rattle.std.proofs.Math.Bool.{true, false}
 use Rattle.code.specs.Sum.{pick}
 use Rattle.code.specs.Layout.{Layout}
@@ -28,6 +28,16 @@ module _ (L : Layout) (a i b d : ℕ) where
   pub found_element : a ≡ 1 → b ≡ 1 → finding.Element i (L.meets i d) ≡ found_of L a i b d
   unfolding found_of
   found_element x y = simp (ne_eqb a 0 (λ z. omega arith), eq-eqb a 1 x, ne_eqb b 0 (λ z. omega arith), eq-eqb b 1 y)
+
+  pub found_several : (2 ≤ a) ⊎ (2 ≤ b) → finding.Several ≡ found_of L a i b d
+  unfolding found_of
+  found_several (inl x) = simp (ne_eqb a 0 (λ z. omega arith), ne_eqb a 1 (λ z. omega arith))
+  found_several (inr y) = simp (ne_eqb b 0 (λ z. omega arith), ne_eqb b 1 (λ z. omega arith)) (go (eqb a 0) (eqb a 1))
+    where
+      go : (u v : Bool) → finding.Several ≡ pick u finding.Several (pick v finding.Several finding.Several)
+      go true v = refl
+      go false true = refl
+      go false false = refl
 
 -- the tallies of a stripe's rows and diagonals find what its wrong lines find
 pub found_tallied : (L : Layout) (e : ℕ) (s : List ℕ) (a i b d : ℕ) → Tallied L.r (wrong_row L e s) a i → Tallied L.n (wrong_diagonal L e s) b d

@@ -8,7 +8,7 @@ ghost use Rattle.lines.specs.Unbalanced.{unbalanced};
 ghost use Rattle.finding.specs.Found.{found_of, Finds};
 ghost use Rattle.finding.specs.Tally.{Tallied};
 
-use lines::wrong_line;
+use lines::{Listing, wrong_line};
 use shape::Shape;
 
 #[derive(Clone, Copy)]
@@ -47,9 +47,9 @@ fn wrong_lines(shape: Shape, stripe: &[u8], from: usize, m: usize) -> Tally
 {
     let mut count: usize = 0;
     let mut first = m;
-    let mut offs = [0usize; 33];
+    let mut listing = Listing::new();
     for v in (0..m).rev() {
-        if wrong_line(shape, stripe, from + v, &mut offs) {
+        if wrong_line(shape, stripe, from + v, &mut listing) {
             count += 1;
             first = v;
         }

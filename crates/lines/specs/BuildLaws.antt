@@ -1,5 +1,6 @@
 -- How a place is built: a gather over the listed others puts their sum at the one. Assumes nothing.
--- os == where the elements of line t start    m == how many they are    ws == the list with the last in the room of v    s, u == the stripe before and after
+-- os == where the elements of line t start    m == how many they are    o == where the one starts, which is taken out    ws == what is left, the last in its room
+-- s, u == the stripe before and after
 use Rattle.std.specs.Prelude.{◌≡◌, List, ℕ, ◌+◌, ◌-◌, ◌*◌, ◌≤◌, ◌<◌, length, get_or, set, take}
 use Rattle.std.proofs.Common.{sym, ap, ◌∙◌, subst, arith, length-set, length-take-le, get_or-take, get_or-set_same, get_or-set_other}
 use Rattle.std.proofs.Math.Decide.{ℕ_discrete}
@@ -33,15 +34,15 @@ module _ (L : Layout) (F : Fair L) (e t : ℕ) (lt : t < L.r + L.n) (v : ℕ) (l
         };
       }
 
-  module _ (os : List ℕ) (m : ℕ) (l : Listed L e t os m) (c : Count m) where
-    start : get_or os v 0 ≡ get_or (line L t) v 0 * e
-    start = l.each v (omega (arith, l.count))
+  module _ (os : List ℕ) (m : ℕ) (l : Listed L e t os m) (c : Count m) (o : ℕ) (its : o ≡ get_or os v 0) where
+    start : o ≡ get_or (line L t) v 0 * e
+    start = its ∙ l.each v (omega (arith, l.count))
 
     -- what gather asks: the one lies in the stripe
-    pub build_inside : (s : List ℕ) → length s ≡ e * places L → get_or os v 0 + e ≤ length s
+    pub build_inside : (s : List ℕ) → length s ≡ e * places L → o + e ≤ length s
     build_inside s size = omega (arith, start, inside e (get_or (line L t) v 0) (places L) ((layout_within L F).below t v lt lv))
 
-    -- the others start where the changed list says
+    -- the others start where the list that is left says
     module _ (ws : List ℕ) (is : ws ≡ take (m - 1) (set os v (get_or os (m - 1) 0))) where
       long : length (take (m - 1) (set os v (get_or os (m - 1) 0))) ≡ m - 1
       long = length-take-le (m - 1) (set os v (get_or os (m - 1) 0)) (omega (arith, length-set os v (get_or os (m - 1) 0), l.room, c.high))
@@ -77,11 +78,11 @@ module _ (L : Layout) (F : Fair L) (e t : ℕ) (lt : t < L.r + L.n) (v : ℕ) (l
           let lm : w < length (line L t) - 1 = omega (arith, others_length (line L t) v) in
           subst (λ (p : ℕ). p < places L) (sym (others_at (line L t) v w lm)) ((layout_within L F).below t (from_line (length (line L t)) v w) lt (from_else (length (line L t)) v w lm).within))
 
-      pub build_apart : Apart e (get_or os v 0) ws
+      pub build_apart : Apart e o ws
       build_apart =
-          offsets_apart (others (line L t) v) ws e (get_or (line L t) v 0) (get_or os v 0) start listed_others
+          offsets_apart (others (line L t) v) ws e (get_or (line L t) v 0) o start listed_others
           (λ w lw. others_apart L F t v w lt lv (omega (arith, others_length (line L t) v)))
 
       -- and what it leaves
-      pub gathered_builds : (s u : List ℕ) → Gathered s e (get_or os v 0) ws u → Builds L e t v s u
-      gathered_builds s u g = placed_builds s u (gathered_placed s (others (line L t) v) ws e (get_or (line L t) v 0) (get_or os v 0) u start listed_others g)
+      pub gathered_builds : (s u : List ℕ) → Gathered s e o ws u → Builds L e t v s u
+      gathered_builds s u g = placed_builds s u (gathered_placed s (others (line L t) v) ws e (get_or (line L t) v 0) o u start listed_others g)

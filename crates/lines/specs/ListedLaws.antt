@@ -1,11 +1,10 @@
 -- Laws of a line as the code lists it: a table is filled with where its elements start, one after the other. Assumes nothing.
--- h == the rows of a strip, r + 1    os == the table before    us == what is listed
-use Rattle.std.specs.Prelude.{◌≡◌, List, ◌++◌, ℕ, ◌+◌, ◌-◌, ◌*◌, ◌%◌, ◌≤◌, ◌<◌, length, get_or, set, take, drop}
+-- h == the rows of a strip, r + 1    os == what is listed
+use Rattle.std.specs.Prelude.{◌≡◌, List, ℕ, ◌+◌, ◌-◌, ◌*◌, ◌%◌, ◌≤◌, ◌<◌, length, get_or, set}
 use Rattle.std.proofs.Math.Path.{refl, sym, ap}
-use Rattle.std.proofs.Common.{◌∙◌, subst, add-mul, mul-le-mul, mod-lt, mod-eq_of_lt, zero-mul, le_refl, arith, length-set, length-append, length-take-le, take-append-drop, get_or-set_same, get_or-set_other}
+use Rattle.std.proofs.Common.{◌∙◌, subst, add-mul, mul-le-mul, mod-lt, mod-eq_of_lt, zero-mul, le_refl, arith, length-set, get_or-set_same, get_or-set_other}
 use Rattle.std.proofs.Math.Nat.{mod-add-mod, mod_self}
 use Rattle.std.proofs.Math.Decide.{dec_lt}
-use Rattle.std.proofs.Math.ListN.{get_or-append}
 use Rattle.code.specs.Circle.{step_cancel}
 use Rattle.code.specs.Place.{place, before}
 use Rattle.code.specs.Layout.{Layout, X, U, diagonal_line}
@@ -102,59 +101,37 @@ module _ (n r s e i d o : ℕ) (pn : 0 < n) (pe : 0 < e) (l : i + 1 < r) (q : o 
 
 -- ---- a row
 
--- as many numbers in the place of the first m
-put_long : (m : ℕ) (os us : List ℕ) → length us ≡ length (take m os) → length (us ++ drop m os) ≡ length os
-put_long m os us q =
-    length-append us (drop m os)
-    ∙ ap (λ (k : ℕ). k + length (drop m os)) q
-    ∙ sym (length-append (take m os) (drop m os))
-    ∙ ap length (take-append-drop m os)
-
 -- its n + 1 elements are listed, each where it starts
-pub row_listed : (L : Layout) (e i : ℕ) (os us : List ℕ) → i < L.r → L.n ≤ 32 → length os ≡ 33
-    → length us ≡ length (take (L.n + 1) os) → ((v : ℕ) → v < length us → get_or us v 0 ≡ X L i v * e) → Listed L e i (us ++ drop (L.n + 1) os) (L.n + 1)
-row_listed L e i os us li ln room q h =
+pub row_listed : (L : Layout) (e i : ℕ) (os : List ℕ) → i < L.r → length os ≡ 33 → ((v : ℕ) → v < L.n + 1 → get_or os v 0 ≡ X L i v * e)
+    → Listed L e i os (L.n + 1)
+row_listed L e i os li room h =
     record {
-      room = put_long (L.n + 1) os us q ∙ room;
+      room = room;
       count = sym (row_length L i) ∙ ap length (sym (line_row L i li));
-      each = λ v lv.
-          get_or-append us (drop (L.n + 1) os) 0 v (omega (arith, long))
-          ∙ h v (omega (arith, long))
-          ∙ ap (λ (p : ℕ). p * e) (sym (row_at L i v (omega arith)) ∙ ap (λ (ps : List ℕ). get_or ps v 0) (sym (line_row L i li)));
+      each = λ v lv. h v lv ∙ ap (λ (p : ℕ). p * e) (sym (row_at L i v (omega arith)) ∙ ap (λ (ps : List ℕ). get_or ps v 0) (sym (line_row L i li)));
     }
-  where
-    long : length us ≡ L.n + 1
-    long = q ∙ length-take-le (L.n + 1) os (omega arith)
 
 -- ---- a diagonal
 
 -- its r data elements are listed, each where it starts, and its U is put after them
-pub diagonal_listed : (L : Layout) (e d : ℕ) (os us : List ℕ) (u : ℕ) → L.r ≤ 32 → length os ≡ 33 → length us ≡ length (take L.r os)
-    → ((v : ℕ) → v < length us → get_or us v 0 ≡ X L v (L.meets v d) * e) → u ≡ U L d * e
-    → Listed L e (L.r + d) (set (us ++ drop L.r os) L.r u) (L.r + 1)
-diagonal_listed L e d os us u lr room q h w =
+pub diagonal_listed : (L : Layout) (e d : ℕ) (os : List ℕ) (u : ℕ) → L.r ≤ 32 → length os ≡ 33
+    → ((v : ℕ) → v < L.r → get_or os v 0 ≡ X L v (L.meets v d) * e) → u ≡ U L d * e → Listed L e (L.r + d) (set os L.r u) (L.r + 1)
+diagonal_listed L e d os u lr room h w =
     record {
-      room = length-set (us ++ drop L.r os) L.r u ∙ whole;
+      room = length-set os L.r u ∙ room;
       count = sym (diagonal_length L d) ∙ ap length (sym (line_diagonal L d));
       each = λ v lv. go v lv (dec_lt v L.r) ∙ ap (λ (ps : List ℕ). get_or ps v 0 * e) (sym (line_diagonal L d));
     }
   where
-    whole : length (us ++ drop L.r os) ≡ 33
-    whole = put_long L.r os us q ∙ room
-
-    long : length us ≡ L.r
-    long = q ∙ length-take-le L.r os (omega arith)
-
-    go : (v : ℕ) → v < L.r + 1 → Dec (v < L.r) → get_or (set (us ++ drop L.r os) L.r u) v 0 ≡ get_or (diagonal_line L d) v 0 * e
+    go : (v : ℕ) → v < L.r + 1 → Dec (v < L.r) → get_or (set os L.r u) v 0 ≡ get_or (diagonal_line L d) v 0 * e
     go v lv (yes l) =
-        get_or-set_other (us ++ drop L.r os) L.r v u 0 (λ z. omega arith)
-        ∙ get_or-append us (drop L.r os) 0 v (omega (arith, long))
-        ∙ h v (omega (arith, long))
+        get_or-set_other os L.r v u 0 (λ z. omega arith)
+        ∙ h v l
         ∙ ap (λ (p : ℕ). p * e) (sym (diagonal_at L d v l))
     go v lv (no l) =
         let last : v ≡ L.r = omega arith in
-        ap (λ (x : ℕ). get_or (set (us ++ drop L.r os) L.r u) x 0) last
-        ∙ get_or-set_same (us ++ drop L.r os) L.r u 0 (omega (arith, whole))
+        ap (λ (x : ℕ). get_or (set os L.r u) x 0) last
+        ∙ get_or-set_same os L.r u 0 (omega (arith, room))
         ∙ w
         ∙ ap (λ (p : ℕ). p * e) (sym (diagonal_end L d v last))
 

@@ -6,5 +6,5 @@ mod listing;
 mod testing;
 
 pub use building::build;
-pub use listing::{line, place};
+pub use listing::{Listing, place};
 pub use testing::wrong_line;

@@ -4,19 +4,15 @@ ghost use Rattle.code.specs.Layout.{line};
 ghost use Rattle.shape.specs.Shape.{layout_of, size_of};
 ghost use Rattle.lines.specs.Unbalanced.{unbalanced};
 
-use crate::listing::line;
+use crate::listing::Listing;
 use shape::Shape;
 
-// Whether line t, the rows and then the diagonals, does not sum to zero in some byte; the list is lent, as for `build`.
-pub fn wrong_line(shape: Shape, stripe: &[u8], t: usize, offs: &mut [usize; 33]) -> bool
+// Whether line t, the rows and then the diagonals, does not sum to zero in some byte. The listing is lent, as for `build`.
+pub fn wrong_line(shape: Shape, stripe: &[u8], t: usize, listing: &mut Listing) -> bool
     requires size { length stripe.now ≡ size_of shape }
     requires line { t < shape.r + shape.n }
-    requires room { length offs.old ≡ 33 }
-    ensures value { result ≡ unbalanced shape.e stripe.now (line (layout_of shape) t) }
-    ensures room { length offs.new ≡ 33 }
+    ensures { result ≡ unbalanced shape.e stripe.now (line (layout_of shape) t) }
 {
-    let m = line(shape, t, offs);
-    let e = shape.e;
-    let all = &offs[..];
-    !element::is_zero(stripe, e, &all[..m])
+    listing.line(shape, t);
+    !element::is_zero(stripe, shape.e, listing.starts())
 }

@@ -37,8 +37,8 @@ module _ (L : Layout) (e a b : ℕ) (s t u : List ℕ) (x : Clears L e a s t) (y
   both_zero p k lp lk z = go (ℕ_discrete (strip_of (height L) p) b) (pair_yes a b (strip_of (height L) p) z)
     where
       go : Dec (strip_of (height L) p ≡ b) → (strip_of (height L) p ≡ a) ⊎ (strip_of (height L) p ≡ b) → at u e k p ≡ 0
-      go (yes q) w = y.zero p k lp lk q
-      go (no ne) (inl q) = y.kept p k lk ne ∙ x.zero p k lp lk q
+      go (yes q) w = y.filled p k lp lk q
+      go (no ne) (inl q) = y.kept p k lk ne ∙ x.filled p k lp lk q
       go (no ne) (inr q) = absurd (ne q)
 
 -- ---- one name of the lost set and another
@@ -65,7 +65,7 @@ module _ (L : Layout) (e : ℕ) (lost same : ℕ → Bool) (eq : (j : ℕ) → l
 
 -- ---- where nothing is lost
 
-pub mends_none : (L : Layout) → Fair L → (e : ℕ) (lost : ℕ → Bool) → ((j : ℕ) → lost j ≡ false) → (s used : List ℕ) → Stripe L e s → ((t : ℕ) → get_or used t 0 ≡ 0)
+pub mends_none : (L : Layout) → Fair L → (e : ℕ) (lost : ℕ → Bool) → ((j : ℕ) → lost j ≡ false) → (s : List ℕ) (used : List Bool) → Stripe L e s → ((t : ℕ) → get_or used t false ≡ false)
     → (x : Bool) → Tests L e used s x → Mends L e lost s s x
 mends_none L F e lost none s used bytes clean x y =
     record {

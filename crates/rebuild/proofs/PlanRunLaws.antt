@@ -12,14 +12,14 @@ use Rattle.rebuild.specs.RunBytes.{run_stripe}
 use Rattle.rebuild.specs.WholePlan.{nothing_planned}
 use Rattle.rebuild.specs.Marks.{marked_none}
 
--- a table of zeros has no mark
-pub zeros : (m t : ℕ) → ◌≡◌ {A = ℕ} (get_or (replicate m 0) t 0) 0
-zeros zero t = refl
-zeros (suc m) zero = refl
-zeros (suc m) (suc t) = zeros m t
+-- a table of false has no mark
+pub no_marks : (m t : ℕ) → get_or (replicate m false) t false ≡ false
+no_marks zero t = refl
+no_marks (suc m) zero = refl
+no_marks (suc m) (suc t) = no_marks m t
 
 -- where nothing is lost, nothing has to run
-pub no_run : (L : Layout) (e : ℕ) (lost : ℕ → Bool) → ((j : ℕ) → lost j ≡ false) → (s used : List ℕ) → ((t : ℕ) → get_or used t 0 ≡ 0) → PlanRun L e lost s s used
+pub no_run : (L : Layout) (e : ℕ) (lost : ℕ → Bool) → ((j : ℕ) → lost j ≡ false) → (s : List ℕ) (used : List Bool) → ((t : ℕ) → get_or used t false ≡ false) → PlanRun L e lost s s used
 no_run L e lost none s used clean =
     record {
       plan = λ u. record { line = 0; target = 0 };
@@ -29,12 +29,12 @@ no_run L e lost none s used clean =
       marks = marked_none (λ u. record { line = 0; target = 0 }) used clean;
     }
 
-module _ (L : Layout) (F : Fair L) (e : ℕ) (lost : ℕ → Bool) (b a used : List ℕ) (x : PlanRun L e lost b a used) where
+module _ (L : Layout) (F : Fair L) (e : ℕ) (lost : ℕ → Bool) (b a : List ℕ) (used : List Bool) (x : PlanRun L e lost b a used) where
   pub ran_size : length a ≡ length b
   ran_size = (run_kept L F e lost x.plan x.count x.planned b a x.run).size
 
   -- every line without a mark sums to zero: mended
-  pub ran_mended : Stripe L e b → ((t : ℕ) → t < L.r + L.n → get_or used t 0 ≡ 0 → (k : ℕ) → k < e → sum (at a e k) (line L t) ≡ 0) → Mended L e lost b a
+  pub ran_mended : Stripe L e b → ((t : ℕ) → t < L.r + L.n → get_or used t false ≡ false → (k : ℕ) → k < e → sum (at a e k) (line L t) ≡ 0) → Mended L e lost b a
   ran_mended s h =
       run_mended L F e lost x.plan x.count x.planned b a x.run
       (run_stripe L F e lost x.plan x.count x.planned b a x.run s) (record { zero = λ t lt un. h t lt (x.marks.unmarked t un) })

@@ -1,13 +1,14 @@
--- How a strip is cleared: it is one run of bytes, and that run was filled with zero. Assumes nothing.
+-- How a strip is filled: it is one run of bytes, and that run was filled; which leaves no byte open. Assumes nothing.
 -- j == the strip    m == the rows it stores; they stand at the places from j (r + 1) on
 use Rattle.std.specs.Prelude.{◌≡◌, ◌≢◌, ◌⊎◌, List, ℕ, ◌+◌, ◌-◌, ◌*◌, ◌≤◌, ◌<◌, length, get_or}
 use Rattle.std.proofs.Common.{sym, ap, ◌∙◌, subst, inl, inr, mul-le-mul, add-mul, mul_comm, le_refl, mod-lt, div-add-mod', arith}
-use Rattle.std.proofs.Math.Decide.{dec_lt}
+use Rattle.std.proofs.Math.Decide.{ℕ_discrete, dec_lt}
 use Rattle.std.proofs.Math.Arith.{digits_lt}
-use Rattle.code.specs.Place.{strip_of, row_of, place_strip, before}
+use Rattle.code.specs.Place.{strip_of, row_of, place_strip, before, at}
 use Rattle.code.specs.Layout.{Layout, height, places}
+use Rattle.code.specs.Lookalikes.{sized_same}
 use Rattle.element.specs.Filled.{Filled}
-use Rattle.rebuild.specs.Clear.{Rows, Clears}
+use Rattle.rebuild.specs.Clear.{Rows, FillsStrip}
 
 module _ (L : Layout) (e j m : ℕ) (lj : j ≤ L.n) (w : Rows L j m) where
   -- the strip ends inside the stripe
@@ -71,10 +72,19 @@ module _ (L : Layout) (e j m : ℕ) (lj : j ≤ L.n) (w : Rows L j m) where
           absurd (ne (ap (strip_of (height L)) (sym q) ∙ place_strip (height L) i j (omega (arith, most))))
 
   -- what it leaves
-  pub filled_clears : (s u : List ℕ) → Filled s (j * height L * e) (m * e) (λ k. 0) u → Clears L e j s u
-  filled_clears s u f =
+  pub filled_strip : (v : ℕ) (s u : List ℕ) → Filled s (j * height L * e) (m * e) (λ k. v) u → FillsStrip L e j v s u
+  filled_strip v s u f =
       record {
         size = f.long;
-        zero = strip_run (λ (x : ℕ). get_or u x 0 ≡ 0) f.inside;
+        filled = strip_run (λ (x : ℕ). get_or u x 0 ≡ v) f.inside;
         kept = λ p k lk ne. f.outside (p * e + k) (strip_apart p k lk ne);
       }
+
+-- nothing is left open: every byte of a stripe with a strip filled is determined
+pub fill_strip_determined : (L : Layout) (e j v : ℕ) (s t u : List ℕ) → length s ≡ e * places L → FillsStrip L e j v s t → FillsStrip L e j v s u → t ≡ u
+fill_strip_determined L e j v s t u size x y =
+    sized_same L e t u (x.size ∙ size) (y.size ∙ size) (λ k lk. record { all = λ p lp. go k lk p lp (ℕ_discrete (strip_of (height L) p) j) })
+  where
+    go : (k : ℕ) → k < e → (p : ℕ) → p < places L → Dec (strip_of (height L) p ≡ j) → at t e k p ≡ at u e k p
+    go k lk p lp (yes q) = x.filled p k lp lk q ∙ sym (y.filled p k lp lk q)
+    go k lk p lp (no ne) = x.kept p k lk ne ∙ sym (y.kept p k lk ne)

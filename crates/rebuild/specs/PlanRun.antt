@@ -8,7 +8,7 @@ use Rattle.rebuild.specs.RunTo.{RunTo}
 use Rattle.rebuild.specs.WholePlan.{Planned}
 use Rattle.rebuild.specs.Marks.{Marked}
 
-pub record PlanRun (L : Layout) (e : ℕ) (lost : ℕ → Bool) (before after used : List ℕ) : Type 0 where
+pub record PlanRun (L : Layout) (e : ℕ) (lost : ℕ → Bool) (before after : List ℕ) (used : List Bool) : Type 0 where
   pub plan : ℕ → Step
   pub count : ℕ
   pub planned : Planned L lost plan count

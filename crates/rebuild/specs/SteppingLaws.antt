@@ -29,6 +29,10 @@ pub record Where (L : Layout) (x : Written) (t v : ℕ) : Type 0 where
   pub within : v < length (line L t)
   pub on : get_or (line L t) v 0 ≡ X L x.row x.strip
 
+-- by equal numbers
+pub where_at : {L : Layout} {x : Written} {t v u w : ℕ} → u ≡ t → w ≡ v → Where L x t v → Where L x u w
+where_at {L} {x} {t} {v} {u} {w} p q y = subst (λ (a : ℕ). Where L x a w) (sym p) (subst (λ (b : ℕ). Where L x t b) (sym q) y)
+
 module _ (L : Layout) (F : Fair L) (x : Written) where
   -- the place of strip v on row t
   row_where : x.kind ≢ 2 → x.kind ≢ 4 → x.row < L.r → x.strip ≤ L.n → Where L x x.row x.strip

@@ -1,8 +1,8 @@
-// A strip set to zero: what is lost is no longer read as data. The run of bytes that a strip is, and bytes set to a value, serve others too.
+// A strip filled with a value. A lost strip is cleared: filled with zero, so that what is lost is no longer read as data.
 ghost use Rattle.std.specs.Prelude.{◌≡◌, ◌+◌, ◌*◌, ◌≤◌, length};
 ghost use Rattle.element.specs.Filled.{Filled};
 ghost use Rattle.shape.specs.Shape.{layout_of, size_of};
-ghost use Rattle.rebuild.specs.Clear.{Rows, Clears};
+ghost use Rattle.rebuild.specs.Clear.{Rows, FillsStrip};
 
 use shape::Shape;
 
@@ -22,14 +22,14 @@ pub fn fill(stripe: &mut [u8], d: usize, m: usize, value: u8)
     stripe[d..d + m].fill(value);
 }
 
-// Every byte of the strip becomes zero; nothing else changes.
-pub fn clear(shape: Shape, strip: usize, stripe: &mut [u8])
+// Every byte of the strip becomes value; nothing else changes.
+pub fn fill_strip(shape: Shape, strip: usize, value: u8, stripe: &mut [u8])
     requires strip { strip ≤ shape.n }
     requires size { length stripe.old ≡ size_of shape }
-    ensures { Clears (layout_of shape) shape.e strip stripe.old stripe.new }
+    ensures { FillsStrip (layout_of shape) shape.e strip value stripe.old stripe.new }
 {
     let m = rows(shape, strip);
     let e = shape.e;
     let d = strip * (shape.r + 1) * e;
-    fill(stripe, d, m * e, 0);
+    fill(stripe, d, m * e, value);
 }

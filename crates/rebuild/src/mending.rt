@@ -1,5 +1,5 @@
 // Mend: the plan of the lost strips is run, the lines that it did not use are tested, and where one is wrong the lost strips are cleared.
-ghost use Rattle.std.specs.Prelude.{◌≡◌, false, ℕ, ◌≤◌, length, get_or};
+ghost use Rattle.std.specs.Prelude.{◌≡◌, false, ◌≤◌, length};
 ghost use Rattle.code.specs.Below.{count};
 ghost use Rattle.code.specs.Layout.{pair};
 ghost use Rattle.code.specs.Bound.{Good};
@@ -7,24 +7,23 @@ ghost use Rattle.shape.specs.Shape.{layout_of, size_of};
 ghost use Rattle.shape.specs.Mask.{lost_in, above_test};
 ghost use Rattle.rebuild.specs.PlanRun.{PlanRun, Mends};
 
-use crate::clearing::clear;
+use crate::clearing::fill_strip;
 use crate::stepping::run_steps;
 use crate::testing::unused_zero;
 use shape::Shape;
 use shape::lost::{first_lost, last_lost};
 use shape::map::map_of;
 
-// The walker's plan for the strips a and b, run on the bytes; the lines that it used are marked.
-fn run(shape: Shape, a: usize, b: usize, stripe: &mut [u8], used: &mut [u8; 64])
+// Runs the walker's plan for the strips a and b on the bytes, and marks the lines that it used.
+fn run(shape: Shape, a: usize, b: usize, stripe: &mut [u8]) -> [bool; 64]
     requires good { Good shape.n shape.r shape.s }
     requires strips { (a ≤ b) × (b ≤ shape.n) }
     requires size { length stripe.old ≡ size_of shape }
-    requires used { (length used.old ≡ 64) × ((t : ℕ) → get_or used.old t 0 ≡ 0) }
-    ensures { PlanRun (layout_of shape) shape.e (pair a b) stripe.old stripe.new used.new }
+    ensures { PlanRun (layout_of shape) shape.e (pair a b) stripe.old stripe.new result }
 {
     let map = map_of(shape);
     let plan = walker::walk(&map, a, b).plan;
-    run_steps(shape, &plan, stripe, used);
+    run_steps(shape, &plan, stripe)
 }
 
 // With the strips a and b lost, which are one strip where they are the same.
@@ -34,13 +33,12 @@ fn mend_pair(shape: Shape, a: usize, b: usize, stripe: &mut [u8]) -> bool
     requires size { length stripe.old ≡ size_of shape }
     ensures { Mends (layout_of shape) shape.e (pair a b) stripe.old stripe.new result }
 {
-    let mut used = [0u8; 64];
-    run(shape, a, b, stripe, &mut used);
+    let used = run(shape, a, b, stripe);
     if unused_zero(shape, stripe, &used) {
         return true;
     }
-    clear(shape, a, stripe);
-    clear(shape, b, stripe);
+    fill_strip(shape, a, 0, stripe);
+    fill_strip(shape, b, 0, stripe);
     false
 }
 
@@ -53,7 +51,7 @@ pub fn mend(shape: Shape, stripe: &mut [u8], mask: u64) -> bool
     ensures { Mends (layout_of shape) shape.e (lost_in mask) stripe.old stripe.new result }
 {
     if mask == 0 {
-        let used = [0u8; 64];
+        let used = [false; 64];
         return unused_zero(shape, stripe, &used);
     }
     let a = first_lost(mask);

@@ -1,11 +1,12 @@
 // The steps of a plan run on the bytes, one gather each.
-ghost use Rattle.std.specs.Prelude.{◌≡◌, ℕ, ◌<◌, length, get_or};
+ghost use Rattle.std.specs.Prelude.{◌≡◌, ℕ, ◌<◌, length};
 ghost use Rattle.walker.specs.Written.{read, written};
 ghost use Rattle.shape.specs.Shape.{layout_of, size_of};
 ghost use Rattle.rebuild.specs.Running.{Running};
 ghost use Rattle.rebuild.specs.Stepping.{Shaped, Stepped};
 ghost use Rattle.rebuild.specs.SteppingLaws.{Where};
 
+use lines::Listing;
 use shape::Shape;
 use walker::{Kind, Plan, Step};
 
@@ -24,29 +25,28 @@ fn where_built(shape: Shape, step: Step) -> (usize, usize)
 }
 
 // Runs a step, and hands back the line that it used.
-fn run_step(shape: Shape, step: Step, offs: &mut [usize; 33], stripe: &mut [u8]) -> usize
+fn run_step(shape: Shape, step: Step, listing: &mut Listing, stripe: &mut [u8]) -> usize
     requires shaped { Shaped shape.n shape.r (read step) }
     requires size { length stripe.old ≡ size_of shape }
-    requires room { length offs.old ≡ 33 }
-    ensures stepped { Stepped (layout_of shape) shape.e (read step) stripe.old stripe.new result }
-    ensures room { length offs.new ≡ 33 }
+    ensures { Stepped (layout_of shape) shape.e (read step) stripe.old stripe.new result }
 {
     let (t, at) = where_built(shape, step);
-    lines::build(shape, t, at, offs, stripe);
+    lines::build(shape, t, at, listing, stripe);
     t
 }
 
 // Runs the steps of a plan, and marks the lines that they used.
-pub fn run_steps(shape: Shape, plan: &Plan, stripe: &mut [u8], used: &mut [u8; 64])
+pub fn run_steps(shape: Shape, plan: &Plan, stripe: &mut [u8]) -> [bool; 64]
     requires steps { (u : ℕ) → u < plan.now.count → Shaped shape.n shape.r (written plan.now.steps u) }
     requires size { length stripe.old ≡ size_of shape }
-    requires used { (length used.old ≡ 64) × ((t : ℕ) → get_or used.old t 0 ≡ 0) }
-    ensures { Running (layout_of shape) shape.e (written plan.now.steps) plan.now.count stripe.old stripe.new used.new }
+    ensures { Running (layout_of shape) shape.e (written plan.now.steps) plan.now.count stripe.old stripe.new result }
 {
-    let mut offs = [0usize; 33];
+    let mut used = [false; 64];
+    let mut listing = Listing::new();
     let steps = plan.steps();
     for step in steps {
-        let t = run_step(shape, *step, &mut offs, stripe);
-        used[t] = 1;
+        let t = run_step(shape, *step, &mut listing, stripe);
+        used[t] = true;
     }
+    used
 }

@@ -4,6 +4,7 @@ ghost use Rattle.code.specs.Layout.{line};
 ghost use Rattle.shape.specs.Shape.{layout_of, size_of};
 ghost use Rattle.stripe.specs.Encode.{EncodedFrom};
 
+use lines::Listing;
 use shape::Shape;
 
 // Where in line t its parity stands: after the n strips of a row, after the r rows of a diagonal.
@@ -19,8 +20,8 @@ pub(crate) fn encode_shape(shape: Shape, stripe: &mut [u8])
     requires { length stripe.old ≡ size_of shape }
     ensures { EncodedFrom (layout_of shape) shape.e stripe.old stripe.new }
 {
-    let mut offs = [0usize; 33];
+    let mut listing = Listing::new();
     for t in 0..shape.r + shape.n {
-        lines::build(shape, t, parity_in(shape, t), &mut offs, stripe);
+        lines::build(shape, t, parity_in(shape, t), &mut listing, stripe);
     }
 }

@@ -1,4 +1,4 @@
--- What the library reads from two and from eight bytes is their number, the low one first. Assumes nothing.
+-- What std reads from two and from eight bytes is their number, the low one first. Assumes nothing.
 use Rattle.std.specs.Prelude.{◌≡◌, refl, List, [], ◌∷◌, ℕ, ◌+◌, ◌*◌, ◌<◌, length, get_or, take, drop}
 use Rattle.std.proofs.Common.{sym, ap, ◌∙◌, arith, add-zero, length-take-le, length-drop, get_or-take, get_or-drop}
 use Rattle.std.proofs.Math.Seq.{drop-length}

@@ -1,10 +1,10 @@
--- How a record on the stripe acts: it leaves a stripe that is sound again, at the start of the room. Assumes nothing.
+-- What a call on the stripe leaves: a stripe that is sound again, at the start of the room. Assumes nothing.
 -- b == the body    c == the shape that is set    room, after == the bytes of the room before and after    z == the reply
-use Rattle.std.specs.Prelude.{◌≡◌, refl, List, [], ◌∷◌, ℕ, ◌≤◌, length, get_or, take, drop, Option, Some, None, Result, Err}
-use Rattle.std.proofs.Common.{sym, ◌∙◌, subst, arith}
+use Rattle.std.specs.Prelude.{◌≡◌, List, [], ◌∷◌, ℕ, ◌≤◌, length, get_or, take, drop, Option, Some, Result}
+use Rattle.std.proofs.Common.{sym, ◌∙◌, subst}
 use Rattle.std.proofs.Math.Decide.{ℕ_discrete}
-use Rattle.code.specs.Shift.{shift}
 use Rattle.shape.specs.declared.shapes.Shape.{Shape}
+use Rattle.shape.specs.Shape.{layout_of, size_of}
 use Rattle.shape.specs.LimitsLaws.{limits_fair}
 use Rattle.patch.proofs.WrittenLaws.{written_length}
 use Rattle.stripe.specs.Write.{write_number, written}
@@ -13,10 +13,8 @@ use Rattle.stripe.specs.WriteNumber.{number_accepted}
 use Rattle.stripebench.specs.declared.replies.Reply.{Reply}
 use Rattle.stripebench.specs.declared.records.Call.{Call}
 use Rattle.stripebench.specs.declared.records.Call.TheVariants.{Write, Rebuild, Scrub, Read}
-use Rattle.stripebench.specs.declared.records.Action.{Action}
-use Rattle.stripebench.specs.declared.records.Action.TheVariants.{Stripe}
 use Rattle.stripebench.specs.Numbers.{low_first}
-use Rattle.stripebench.specs.Acting.{call_stripe, write_stripe, size_of, Calls, Acts}
+use Rattle.stripebench.specs.Acting.{call_stripe, write_stripe, Calls}
 use Rattle.stripebench.specs.Holding.{Ready, Holds}
 
 -- ---- one call
@@ -46,8 +44,8 @@ module _ (h : Shape) (b s : List ℕ) (k : Ready h s) where
           subst (λ (a : List ℕ). Ready h a) (sym (written_done h.n h.r h.s h.e i j o run s z))
           (record {
             good = k.good;
-            size = written_length (shift h.n h.r h.s) h.e i j o run s ∙ k.size;
-            sound = written_sound (shift h.n h.r h.s) h.e i j o run s fair y.row y.strip y.sized k.sound;
+            size = written_length (layout_of h) h.e i j o run s ∙ k.size;
+            sound = written_sound (layout_of h) h.e i j o run s fair y.row y.strip y.sized k.sound;
           })
 
   -- so every call does
@@ -59,39 +57,16 @@ module _ (h : Shape) (b s : List ℕ) (k : Ready h s) where
 
 -- ---- in the room
 
--- an action that is v acts as v does
-pub acts_of : (action v : Action) (b : List ℕ) (c : Option Shape) (room : List ℕ) (d : Option Shape) (after : List ℕ) (z : Result Reply ℕ) → action ≡ v
-    → Acts v b c room d after z → Acts action b c room d after z
-acts_of action v b c room d after z q p = subst (λ (u : Action). Acts u b c room d after z) (sym q) p
+module _ (call : Call) (h : Shape) (b : List ℕ) (c : Option Shape) (room : List ℕ) (q : c ≡ Some h) (hold : Holds c room) (after : List ℕ) (z : Result Reply ℕ)
+    (long : length after ≡ length room) (w : Calls call h b (take (size_of h) room) (take (size_of h) after) z) where
+  ready : Ready h (take (size_of h) after)
+  ready = subst (λ (a : List ℕ). Ready h a) (sym w.stripe) (call_ready h b (take (size_of h) room) (hold.ready h q).1 call)
 
-module _ (action : Action) (call : Call) (is : action ≡ Stripe call) (b : List ℕ) (c : Option Shape) (room : List ℕ) where
-  -- 11
-  pub acts_unset : c ≡ None → Acts action b c room c room (Err 11)
-  acts_unset q =
-      acts_of action (Stripe call) b c room c room (Err 11) is
-      (subst (λ (u : Option Shape). Acts (Stripe call) b u room u room (Err 11)) (sym q) (record { reply = refl; shape = refl; stripe = refl }))
-
-  module _ (h : Shape) (q : c ≡ Some h) (hold : Holds c room) where
-    -- what the call asks
-    pub room_ready : Ready h (take (size_of h) room)
-    room_ready = (hold.ready h q).1
-
-    pub room_fits : size_of h ≤ length room
-    room_fits = omega (arith, (hold.ready h q).0, hold.long)
-
-    module _ (after : List ℕ) (z : Result Reply ℕ) (long : length after ≡ length room)
-        (w : Calls call h b (take (size_of h) room) (take (size_of h) after) z) where
-      pub acts_set : Acts action b c room c after z
-      acts_set =
-          acts_of action (Stripe call) b c room c after z is
-          (subst (λ (u : Option Shape). Acts (Stripe call) b u room u after z) (sym q) (record { reply = w.reply; shape = refl; stripe = w.stripe }))
-
-      pub holds_set : Holds c after
-      holds_set =
-          record {
-            long = long ∙ hold.long;
-            ready = λ g e.
-                let shapes : h ≡ g = cc in
-                subst (λ (u : Shape). (size_of u ≤ 32768) × Ready u (take (size_of u) after)) shapes
-                ((hold.ready h q).0, subst (λ (a : List ℕ). Ready h a) (sym w.stripe) (call_ready h b (take (size_of h) room) room_ready call));
-          }
+  pub holds_set : Holds c after
+  holds_set =
+      record {
+        long = long ∙ hold.long;
+        ready = λ g e.
+            let shapes : h ≡ g = cc in
+            subst (λ (u : Shape). (size_of u ≤ 32768) × Ready u (take (size_of u) after)) shapes ((hold.ready h q).0, ready);
+      }

@@ -4,9 +4,8 @@
 use Rattle.std.specs.Prelude.{◌≡◌, ◌≢◌, List, [], ◌∷◌, ℕ, eqb, ltb, length, get_or, take, drop, Option, Some, None, Result, Err}
 use Rattle.code.specs.Sum.{table, pick}
 use Rattle.code.specs.Below.{count}
-use Rattle.code.specs.Shift.{shift}
 use Rattle.shape.specs.declared.shapes.Shape.{Shape}
-use Rattle.shape.specs.Shape.{ShapeOf}
+use Rattle.shape.specs.Shape.{ShapeOf, layout_of, size_of}
 use Rattle.shape.specs.Mask.{lost_in}
 use Rattle.shape.specs.Call.{bytes_of, call_number}
 use Rattle.finding.specs.Found.{wrong_row, wrong_diagonal}
@@ -79,7 +78,7 @@ module _ (h : Shape) (b s : List ℕ) where
 abbrev pub scrub_reply : Shape → List ℕ → Result Reply ℕ
 scrub_reply h s =
     replied (call_number h.n h.r h.s h.e (length s) 0)
-    (Two (count h.r (wrong_row (shift h.n h.r h.s) h.e s)) (count h.n (wrong_diagonal (shift h.n h.r h.s) h.e s)))
+    (Two (count h.r (wrong_row (layout_of h) h.e s)) (count h.n (wrong_diagonal (layout_of h) h.e s)))
 
 abbrev pub call_reply : Call → Shape → List ℕ → List ℕ → Result Reply ℕ
 call_reply Write h b s = write_reply h b s
@@ -99,9 +98,6 @@ pub record Calls (call : Call) (h : Shape) (b before after : List ℕ) (x : Resu
   pub stripe : after ≡ call_stripe call h b before
 
 -- ---- any kind: without a shape every call is refused with 11
-
-abbrev pub size_of : Shape → ℕ
-size_of h = bytes_of h.n h.r h.e
 
 -- the stripe stands at the start of the room
 abbrev pub stripe_of : Option Shape → List ℕ → List ℕ

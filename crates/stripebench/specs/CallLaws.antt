@@ -5,31 +5,29 @@ use Rattle.std.specs.Prelude.{◌≡◌, refl, Bool, true, false, List, [], ◌�
 use Rattle.std.proofs.Common.{sym, ap, ap₂, ◌∙◌, subst, arith, lt-ltb}
 use Rattle.code.specs.Sum.{pick}
 use Rattle.code.specs.Below.{count}
-use Rattle.code.specs.Shift.{shift}
 use Rattle.code.specs.Sound.{SoundStripe}
 use Rattle.shape.specs.declared.shapes.Shape.{Shape}
 use Rattle.shape.specs.declared.refusal.Refusal.{Refusal}
 use Rattle.shape.specs.declared.refusal.Refusal.TheVariants.{Mask, Many}
 use Rattle.shape.specs.Refusal.{number_of}
+use Rattle.shape.specs.Shape.{layout_of}
 use Rattle.shape.specs.Mask.{lost_in, above_test}
-use Rattle.shape.specs.Call.{call_number, answer_number, Answered, Answer}
+use Rattle.shape.specs.Call.{answer_number, Answered, Answer}
 use Rattle.shape.specs.JudgedCall.{last_number}
 use Rattle.shape.specs.CallLaws.{done_refused}
-use Rattle.finding.specs.declared.Counts.{Counts}
 use Rattle.stripe.specs.Write.{Writes}
 use Rattle.stripe.specs.WriteNumber.{number_accepted}
 use Rattle.stripe.specs.Read.{read_number, read_part}
 use Rattle.stripe.specs.ReadLaws.{read_length}
-use Rattle.stripe.specs.Scrub.{scrubbed_number, Scrubs, Scrubbed}
 use Rattle.rebuild.specs.Rebuild.{rebuild_number, Rebuilds}
 use Rattle.rebuild.specs.RebuildNumber.{Accepted}
 use Rattle.rebuild.proofs.RebuildNumberLaws.{accepted_number}
 use Rattle.rebuild.proofs.RebuildLaws.{rebuild_gives}
 use Rattle.stripebench.specs.declared.replies.Reply.{Reply}
-use Rattle.stripebench.specs.declared.replies.Reply.TheVariants.{Done, One, Two}
+use Rattle.stripebench.specs.declared.replies.Reply.TheVariants.{Done, One}
 use Rattle.stripebench.specs.Numbers.{low_first}
 use Rattle.stripebench.specs.Ruin.{Ruins}
-use Rattle.stripebench.specs.Acting.{write_reply, write_stripe, rebuild_reply, scrub_reply, read_reply}
+use Rattle.stripebench.specs.Acting.{write_reply, write_stripe, rebuild_reply, read_reply}
 use Rattle.stripebench.specs.Holding.{Ready}
 use Rattle.stripebench.specs.Replies.{replied}
 use Rattle.stripebench.specs.ReplyLaws.{replied_done, replied_refused, answered_done, answered_refused}
@@ -81,17 +79,6 @@ module _ (h : Shape) (b s : List ℕ) (i j : ℕ) (is : (i ≡ get_or b 0 0) × 
   pub read_refused : (y : Refusal) → x ≡ Err y → Err (number_of y) ≡ read_reply h b s
   read_refused y q = of_place _ (answered_refused _ _ _ _ _ x w y q)
 
--- ---- scrub
-
-module _ (h : Shape) (s : List ℕ) (x : Scrubbed) (w : Scrubs h.n h.r h.s h.e s x) where
-  pub scrub_counted : (c : Counts) → x ≡ Ok c → Ok (Two c.rows c.diagonals) ≡ scrub_reply h s
-  scrub_counted c e =
-      ap₂ (λ (u v : ℕ). Ok (Two u v)) (w.finds c e).rows_are (w.finds c e).diagonals_are
-      ∙ replied_done (call_number h.n h.r h.s h.e (length s) 0) _ (sym w.number ∙ ap scrubbed_number e)
-
-  pub scrub_refused : (y : Refusal) → x ≡ Err y → Err (number_of y) ≡ scrub_reply h s
-  scrub_refused y q = replied_refused (call_number h.n h.r h.s h.e (length s) 0) _ y (sym (ap scrubbed_number q) ∙ w.number)
-
 -- ---- rebuild
 
 module _ (h : Shape) (b s : List ℕ) (k : Ready h s) (mask : ℕ) (p : mask ≡ low_first b) where
@@ -120,8 +107,8 @@ module _ (h : Shape) (b s : List ℕ) (k : Ready h s) (mask : ℕ) (p : mask ≡
 
     -- 0, and the stripe is back: it is sound, and it agrees with the survivors
     module _ (few : count 64 (lost_in mask) ≤ 2) (bytes : (i : ℕ) → i < length s → get_or s i 0 < 256) (t a : List ℕ) (x : Answer)
-        (ruins : Ruins (shift h.n h.r h.s) h.e (lost_in mask) s t) (w : Rebuilds h.n h.r h.s h.e mask t a x) where
-      sound : SoundStripe (shift h.n h.r h.s) h.e s
+        (ruins : Ruins (layout_of h) h.e (lost_in mask) s t) (w : Rebuilds h.n h.r h.s h.e mask t a x) where
+      sound : SoundStripe (layout_of h) h.e s
       sound = record { stripe = record { size = k.size; bytes = bytes }; each = k.sound }
 
       accepted : (len : ℕ) → len ≡ length s → Accepted h.n h.r h.s h.e len mask

@@ -5,16 +5,15 @@ use Rattle.std.proofs.Common.{ap₂, arith}
 use Rattle.std.proofs.Props.{props}
 use Rattle.code.specs.Bound.{Good, wide, narrow}
 use Rattle.code.specs.Place.{at}
-use Rattle.code.specs.Shift.{shift}
 use Rattle.code.specs.Sound.{Sound}
 use Rattle.shape.specs.declared.shapes.Shape.{Shape}
-use Rattle.stripebench.specs.Acting.{size_of}
+use Rattle.shape.specs.Shape.{layout_of, size_of}
 
 -- s is a sound stripe of the good shape h
 pub record Ready (h : Shape) (s : List ℕ) : Type 0 where
   pub good : Good h.n h.r h.s
   pub size : length s ≡ size_of h
-  pub sound : (k : ℕ) → k < h.e → Sound (shift h.n h.r h.s) (at s h.e k)
+  pub sound : (k : ℕ) → k < h.e → Sound (layout_of h) (at s h.e k)
 
 -- c is the shape that is set
 pub record Holds (c : Option Shape) (room : List ℕ) : Type 0 where

@@ -1,28 +1,25 @@
--- Laws of ruin: one strip is one run of bytes; after two strips both are ruined; a mask of at most two is its first and its last. Assumes nothing.
-use Rattle.std.specs.Prelude.{◌≡◌, ◌⊎◌, Bool, false, List, ℕ, ◌+◌, ◌*◌, ◌≤◌, ◌<◌, get_or}
+-- Laws of ruin: one strip filled with FF is ruined; after two strips both are ruined; a mask of at most two is its first and its last. Assumes nothing.
+use Rattle.std.specs.Prelude.{◌≡◌, ◌⊎◌, Bool, false, List, ℕ, ◌<◌}
 use Rattle.std.proofs.Common.{sym, ap, ◌∙◌, inl, inr, ⊎_elim}
 use Rattle.std.proofs.Math.Decide.{ℕ_discrete}
 use Rattle.code.specs.SumLaws.{clash}
 use Rattle.code.specs.Place.{at, strip_of}
 use Rattle.code.specs.Layout.{Layout, height, places, pair}
 use Rattle.code.specs.LayoutLaws.{pair_no, pair_yes, pair_kept, pair_left}
-use Rattle.element.specs.Filled.{Filled}
-use Rattle.rebuild.specs.Clear.{Rows}
-use Rattle.rebuild.specs.ClearLaws.{strip_run, strip_apart}
+use Rattle.rebuild.specs.Clear.{FillsStrip}
 use Rattle.rebuild.proofs.RebuildLaws.{kept_refl}
 use Rattle.stripebench.specs.Ruin.{Ruins}
 
 module _ (L : Layout) (e : ℕ) where
   -- a strip alone is the pair of it with itself
-  pub filled_ruins : (j m : ℕ) → j ≤ L.n → Rows L j m → (s u : List ℕ) → Filled s (j * height L * e) (m * e) (λ k. 255) u → Ruins L e (pair j j) s u
-  filled_ruins j m lj w s u f =
+  pub strip_ruins : (j : ℕ) (s u : List ℕ) → FillsStrip L e j 255 s u → Ruins L e (pair j j) s u
+  strip_ruins j s u f =
       record {
         kept = record {
-          size = f.long;
-          survivors = λ k lk. record { survivors = λ p lp o. sym (f.outside (p * e + k) (strip_apart L e j m lj w p k lk (pair_kept j j (strip_of (height L) p) o).0)) };
+          size = f.size;
+          survivors = λ k lk. record { survivors = λ p lp o. sym (f.kept p k lk (pair_kept j j (strip_of (height L) p) o).0) };
         };
-        ruined = λ p k lp lk o.
-            strip_run L e j m lj w (λ (x : ℕ). get_or u x 0 ≡ 255) f.inside p k lp lk (⊎_elim (λ q. q) (λ q. q) (pair_yes j j (strip_of (height L) p) o));
+        ruined = λ p k lp lk o. f.filled p k lp lk (⊎_elim (λ q. q) (λ q. q) (pair_yes j j (strip_of (height L) p) o));
       }
 
   -- no strip

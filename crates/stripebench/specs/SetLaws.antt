@@ -6,12 +6,12 @@ use Rattle.code.specs.Bound as bound
 use Rattle.code.specs.Sum.{table, pick}
 use Rattle.code.specs.SumLaws.{sum_to_nil, length_table, get_or_table}
 use Rattle.code.specs.AlongLaws.{along_nil}
-use Rattle.code.specs.Shift.{shift}
 use Rattle.element.specs.Filled.{Filled}
 use Rattle.shape.specs.declared.shapes.Shape.{Shape}
 use Rattle.shape.specs.declared.refusal.Refusal.{Refusal}
 use Rattle.shape.specs.declared.refusal.Refusal.TheVariants.{Length}
 use Rattle.shape.specs.Refusal.{number_of, refusal_some}
+use Rattle.shape.specs.Shape.{layout_of, size_of}
 use Rattle.shape.specs.Limits.{Limits}
 use Rattle.shape.specs.WithinLaws.{to_numbers}
 use Rattle.shape.specs.Call.{bytes_of}
@@ -19,7 +19,7 @@ use Rattle.shape.specs.Judge.{Judges, Judged}
 use Rattle.shape.specs.JudgedCall.{refused_answered, good_limits, good_good, last_number}
 use Rattle.stripebench.specs.declared.replies.Reply.TheVariants.{One}
 use Rattle.stripebench.specs.declared.records.Action.TheVariants.{Judge}
-use Rattle.stripebench.specs.Acting.{n_in, r_in, s_in, e_in, size_in, set_number, size_of, stripe_of, Acts}
+use Rattle.stripebench.specs.Acting.{n_in, r_in, s_in, e_in, size_in, set_number, stripe_of, Acts}
 use Rattle.stripebench.specs.Holding.{Ready, Holds}
 use Rattle.stripebench.specs.ReplyLaws.{replied_done, replied_refused}
 
@@ -41,7 +41,7 @@ zeros_ready h g =
       size = length_table (size_of h) (λ k. 0);
       sound = λ k lk. record {
         rows = λ i li. zeros_at (size_of h) _ ∙ sym (sum_to_nil h.n _ (λ j lj. zeros_at (size_of h) _));
-        diagonals = λ d ld. zeros_at (size_of h) _ ∙ sym (along_nil (shift h.n h.r h.s) _ d (λ i j li lj. zeros_at (size_of h) _));
+        diagonals = λ d ld. zeros_at (size_of h) _ ∙ sym (along_nil (layout_of h) _ d (λ i j li lj. zeros_at (size_of h) _));
       };
     }
 

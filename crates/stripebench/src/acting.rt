@@ -1,6 +1,7 @@
 // What a record does: it sets a shape, or calls on the stripe of the one that is set.
-ghost use Rattle.std.specs.Prelude.{◌≡◌, ◌≤◌, length, take, None};
-ghost use Rattle.stripebench.specs.Acting.{size_of, Calls, Acts};
+ghost use Rattle.std.specs.Prelude.{◌≡◌, ◌≤◌, length, take};
+ghost use Rattle.shape.specs.Shape.{size_of};
+ghost use Rattle.stripebench.specs.Acting.{Calls, Acts};
 ghost use Rattle.stripebench.specs.Holding.{Ready, Holds, Holds-prop};
 ghost use Rattle.stripebench.specs.Replies.{numbered, refused_number};
 ghost use Rattle.shape.specs.Refusal.{number_of};
@@ -20,16 +21,6 @@ pub struct Room {
 }
 
 impl Room {
-    // No shape is set.
-    pub fn new() -> Self
-        ensures { result.shape ≡ None }
-    {
-        Room {
-            shape: None,
-            bytes: [0; 32768],
-        }
-    }
-
     // Sets a good shape that fits, with a stripe of zeros; another one changes nothing.
     fn judge(&mut self, body: &[u8; 8]) -> Result<Reply, Refusal>
         ensures { Acts Action.Judge body.now self.old.shape self.old.bytes self.new.shape self.new.bytes (numbered number_of result) }
@@ -42,7 +33,8 @@ impl Room {
             usize::from(s),
             usize::from(e),
         )?;
-        if self.bytes.len() < size {
+        let room = self.bytes.len();
+        if room < size {
             return Err(Refusal::Length);
         }
         fill(&mut self.bytes, 0, size, 0);

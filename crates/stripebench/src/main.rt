@@ -54,7 +54,10 @@ fn one<R: Read>(rt: &impl Print, input: &mut R, room: &mut Room) -> io::Result<C
 
 fn main(rt: HostRuntime) -> io::Result<()> {
     let mut input = rt.reader();
-    let mut room = Room::new();
+    let mut room = Room {
+        shape: None,
+        bytes: [0; 32768],
+    };
     // A loop must end: no input has this many records.
     for _ in 0..u64::MAX {
         if one(&rt, &mut input, &mut room)?.is_break() {

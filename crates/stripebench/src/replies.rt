@@ -15,7 +15,7 @@ pub enum Reply {
 }
 
 // Why nothing is done: the library refuses it, or no shape is set yet.
-#[derive(Clone, Copy)]
+#[derive(Clone, Copy, Debug, PartialEq, Eq)]
 pub enum Refused {
     Library(Refusal),
     NoShape,

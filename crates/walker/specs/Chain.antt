@@ -1,5 +1,5 @@
 -- A chain: what holds between two of its steps, and what one step of it leaves. Assumes nothing.
--- g, f == the flags before and after    s == the buffer of steps    k == how many steps it holds
+-- g, f == the flags before and after    s == the steps of the plan    k == how many are written down
 use Rattle.std.specs.Prelude.{ℕ, ◌+◌, ◌<◌, ◌≤◌, ◌≡◌, List, Bool, ◌⊎◌}
 use Rattle.std.proofs.Common.{sym, ap, ◌∙◌, subst, inl, inr, arith}
 use Rattle.code.specs.Layout.{Layout}
@@ -42,11 +42,6 @@ diagonal_first L d i j e K o = go (through L i j K o)
     go (inl p) = inr p
     go (inr p) = inl (p ∙ ap diagonal e)
 
--- a line that gives nothing is followed by standing still
-pub stepped_none : {L : Layout} {lost : ℕ → Bool} {K : Line} {g : List (List Bool)} {s : List Step} {k : ℕ} → State L lost g s k
-    → ((i j : ℕ) → Lone L lost (Marked g) K i j → ⊥) → Stepped L lost K g g s k
-stepped_none S none = record { state = S; none = none; opened = λ M i j x. x }
-
 module _ {L : Layout} {lost : ℕ → Bool} {K : Line} {g : List (List Bool)} {s : List Step} {k i j : ℕ} (S : State L lost g s k)
     (x : Lone L lost (Marked g) K i j) where
   adds : Adds (Marked g) (Marked (put g i j)) i j
@@ -55,10 +50,6 @@ module _ {L : Layout} {lost : ℕ → Bool} {K : Line} {g : List (List Bool)} {s
   -- the number of unknown elements falls
   pub fall : unknowns L lost (put g i j) < unknowns L lost g
   fall = unknowns_fall L lost g (put g i j) i j adds x.row_below x.strip_below x.is_lost x.new
-
-  -- there is room for the step
-  pub space : k < 64
-  space = omega (arith, fall, S.room)
 
   -- the step is taken
   pub taken : {t : List Step} {e kind : ℕ} → Recorded s k kind i j t e → RightStep L lost (Marked g) (step kind i j) → State L lost (put g i j) t e

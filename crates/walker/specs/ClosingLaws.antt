@@ -1,10 +1,10 @@
 -- Laws of the end of a walk: each step for a parity is right and new, and in the end every lost place is built. Assumes nothing.
-use Rattle.std.specs.Prelude.{ℕ, ◌+◌, ◌<◌, ◌≤◌, ◌≡◌, refl, List, Bool, true, false, ◌⊎◌}
-use Rattle.std.proofs.Common.{sym, ◌∙◌, subst, inl, inr, arith}
+use Rattle.std.specs.Prelude.{ℕ, ◌+◌, ◌<◌, ◌≤◌, ◌≡◌, refl, List, Bool, true, ◌⊎◌}
+use Rattle.std.proofs.Common.{sym, subst, inl, inr, arith}
 use Rattle.std.proofs.Math.Decide.{ℕ_discrete, dec_lt}
 use Rattle.code.specs.SumLaws.{clash}
 use Rattle.code.specs.Layout.{Layout, Fair, pair}
-use Rattle.code.specs.LayoutLaws.{pair_left, pair_right, pair_no, pair_yes}
+use Rattle.code.specs.LayoutLaws.{pair_left, pair_right, pair_yes}
 use Rattle.code.specs.Drawn.{drawn}
 use Rattle.code.specs.LiveLaws.{Adds, known_of}
 use Rattle.code.specs.Steps.{BuiltAt, of_row, of_strip}
@@ -118,18 +118,6 @@ module _ {L : Layout} {lost : ℕ → Bool} {s : List Step} {k u h : ℕ} (c : C
       new x lx lr (inl b) = c.h_new x (omega arith) lr b
       new x lx lr (inr q) = omega (arith, q.0)
 
-  -- where strip n survives no H has a step
-  pub closing_kept : lost L.n ≡ false → Closing L lost s k u L.r
-  closing_kept e =
-      record {
-        right = c.right;
-        elements = c.elements;
-        v_built = c.v_built;
-        v_new = c.v_new;
-        h_built = λ z. clash (sym e ∙ z);
-        h_new = λ x lx lr. absurd (omega arith);
-      }
-
 -- every lost place is built
 pub walk_whole : {L : Layout} {lost : ℕ → Bool} {s : List Step} {k : ℕ} → Closing L lost s k L.n L.r → k ≤ 66 → Walk L lost (written s) k true
 walk_whole c l =
@@ -154,9 +142,6 @@ beside a b u v p q x lu lv e = go p q (pair_yes a b x e)
     go y (inr l) (inr z) = omega arith
 
 module _ {L : Layout} {s : List Step} {k : ℕ} (a b : ℕ) (la : a ≤ b) (lb : b ≤ L.n) (c : Closing L (pair a b) s k 0 0) where
-  pub v_none : a ≡ L.n → Closing L (pair a b) s k L.n 0
-  v_none e = closing_skip c L.n (omega arith) (beside a b 0 L.n (inr (omega arith)) (inr (omega arith)))
-
   module _ (F : Fair L) (l : a < L.n) {t : List Step} {e : ℕ} (w : Recorded s k 4 L.r a t e) where
     v_first : Closing L (pair a b) t e (a + 1) 0
     v_first = closing_v c F a (omega arith) l (pair_left a b) (beside a b 0 a (inr (omega arith)) (inr la)) w
@@ -170,12 +155,6 @@ module _ {L : Layout} {s : List Step} {k : ℕ} (a b : ℕ) (la : a ≤ b) (lb :
         (beside a b (b + 1) L.n (inl (omega arith)) (inl (omega arith)))
 
 module _ {n r b : ℕ} {s : List Step} {k : ℕ} where
-  pub h_kept : b < n → BuiltH n r b s k s k
-  h_kept l = record { any = λ m h a la c. closing_kept c (pair_no a b n (omega arith) (omega arith)) }
-
-  pub h_none : WrittenH n r b s k s k 0
-  h_none = record { count = omega arith; any = λ m h a c. c }
-
   pub h_more : {t : List Step} {e i : ℕ} → WrittenH n r b s k t e i → b ≡ n → i < r → {v : List Step} {f : ℕ} → Recorded t e 3 i n v f → WrittenH n r b s k v f (i + 1)
   h_more x e l w =
       record {
@@ -183,14 +162,8 @@ module _ {n r b : ℕ} {s : List Step} {k : ℕ} where
         any = λ m h a c. closing_h (x.any m h a c) (subst (λ (z : ℕ). pair a b z ≡ true) e (pair_right a b)) l w;
       }
 
-  pub h_all : {t : List Step} {e i : ℕ} → WrittenH n r b s k t e i → i ≡ r → BuiltH n r b s k t e
-  h_all {t} {e} x q = record { any = λ m h a la c. subst (λ (z : ℕ). Closing (drawn m h n r) (pair a b) t e n z) q (x.any m h a c) }
-
 -- the U that the two lost strips have
 module _ {n r a b : ℕ} {s : List Step} {k : ℕ} (la : a ≤ b) (lb : b ≤ n) where
-  pub built_v_none : a ≡ n → BuiltV n r a b s k s k
-  built_v_none e = record { room = omega arith; any = λ m h F c. v_none a b la lb c e }
-
   module _ (l : a < n) {t : List Step} {e : ℕ} (w : Recorded s k 4 r a t e) where
     pub built_v_one : (b < a + 1) ⊎ (n ≤ b) → BuiltV n r a b s k t e
     built_v_one q = record { room = omega (arith, w.count); any = λ m h F c. v_one a b la lb c F l w q }

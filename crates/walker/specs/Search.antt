@@ -1,19 +1,9 @@
 -- What the walker's searches answer. Assumes nothing.
 -- D i j == the diagonal of row i in strip j    g == the flags    t == the answer
-use Rattle.std.specs.Prelude.{ℕ, ◌<◌, ◌≤◌, ◌≡◌, ◌⊎◌, List, Bool, true, false, Option, Some, None}
+use Rattle.std.specs.Prelude.{ℕ, ◌<◌, ◌≤◌, ◌≡◌, List, Bool, true, false, Option, Some, None}
 use Rattle.code.specs.Layout.{Layout}
-use Rattle.code.specs.Live.{Line, row, diagonal, On, Lone}
+use Rattle.code.specs.Live.{Line, Lone}
 use Rattle.walker.specs.Flags.{Marked}
-
--- a line of the layout
-abbrev pub Among : Layout → Line → Type 0
-Among L (row i) = i < L.r
-Among L (diagonal d) = d < L.n
-
--- M is a line of the layout, and the lines through the element of row i in strip j are K and M
-pub record Crossed (L : Layout) (K : Line) (i j : ℕ) (M : Line) : Type 0 where
-  pub among : Among L M
-  pub two : (N : Line) → On L N i j → (N ≡ K) ⊎ (N ≡ M)
 
 -- whether strip c has data, and that of row i lies on diagonal d and is not flagged
 pub record OpenAt (D : ℕ → ℕ → ℕ) (n : ℕ) (g : List (List Bool)) (c d i : ℕ) (t : Bool) : Type 0 where

@@ -51,9 +51,6 @@ h_room L a b {g} S e =
     past l = omega arith
 
 module _ {L : Layout} {lost : ℕ → Bool} {g : List (List Bool)} {s : List Step} {k : ℕ} where
-  pub swept_none : State L lost g s k → Swept L lost g s k 0 0
-  swept_none S = record { state = S; no_row = λ v l. absurd (omega arith); no_diagonal = λ v l. absurd (omega arith) }
-
   module _ {x d : ℕ} (w : Swept L lost g s k x d) {f : List (List Bool)} {t : List Step} {e : ℕ} where
     pub row_passed : Stepped L lost (row x) g f t e → Swept L lost f t e (x + 1) d
     row_passed z =
@@ -78,10 +75,6 @@ module _ {L : Layout} {lost : ℕ → Bool} {g : List (List Bool)} {s : List Ste
         go : (v : ℕ) → v < d + 1 → Dec (v ≡ d) → (i j : ℕ) → Lone L lost (Marked f) (diagonal v) i j → ⊥
         go v lv (yes q) = subst (λ (u : ℕ). (i j : ℕ) → Lone L lost (Marked f) (diagonal u) i j → ⊥) (sym q) z.none
         go v lv (no ne) = λ i j y. w.no_diagonal v (omega arith) i j (z.opened (diagonal v) i j y)
-
-  -- the sweep ended where no line is left
-  pub swept_end : {x d y e : ℕ} → y ≤ x → e ≤ d → Swept L lost g s k x d → Swept L lost g s k y e
-  swept_end ly le w = record { state = w.state; no_row = λ v l. w.no_row v (omega arith); no_diagonal = λ v l. w.no_diagonal v (omega arith) }
 
   module _ (F : Fair L) (w : Swept L lost g s k L.r L.n) where
     pub swept_finished : Finished L lost (BuiltAt (written s) k)

@@ -5,7 +5,7 @@ use Rattle.std.proofs.Common.{sym, ap, ◌∙◌, subst, inl, inr, arith, get_or
 use Rattle.std.proofs.lemmas.List.{get_or-take}
 use Rattle.std.proofs.Math.Decide.{ℕ_discrete}
 use Rattle.code.specs.Layout.{Layout}
-use Rattle.code.specs.Live.{Line, row, diagonal, Lone}
+use Rattle.code.specs.Live.{row, diagonal, Lone}
 use Rattle.code.specs.LiveLaws.{Adds, known_ext, lone_ext}
 use Rattle.code.specs.Steps.{Written, BuiltAt, RightStep, by_row, by_diagonal, of_row, of_strip, RightSteps}
 use Rattle.walker.specs.declared.plan.Kind.{Kind}
@@ -21,11 +21,6 @@ number ByRow = 1
 number ByDiagonal = 2
 number H = 3
 number U = 4
-
--- the kind of a step by a line
-abbrev pub kind_of : Line → ℕ
-kind_of (row i) = 1
-kind_of (diagonal d) = 2
 
 -- a step as `code` has it
 abbrev pub read : Step → Written
@@ -117,10 +112,12 @@ right_ext to from {x} (of_row e li lj is new rest) =
 right_ext to from {x} (of_strip e ei lj is new rest) =
     of_strip e ei lj is (λ c. new (from _ _ c)) (λ i l. known_ext (to _ _) (rest i l))
 
--- the one element that a line gives makes a right step
-pub line_right : {L : Layout} {lost : ℕ → Bool} {B : ℕ → ℕ → Type 0} (K : Line) {i j : ℕ} → Lone L lost B K i j → RightStep L lost B (step (kind_of K) i j)
-line_right {L} {lost} {B} (row x) {i} {j} y = by_row refl (subst (λ (h : ℕ). Lone L lost B (row h) i j) (sym y.on) y)
-line_right {L} {lost} {B} (diagonal d) {i} {j} y = by_diagonal refl (subst (λ (h : ℕ). Lone L lost B (diagonal h) i j) (sym y.on) y)
+-- the one element that a row gives, and that a diagonal gives, make right steps
+pub row_right : {L : Layout} {lost : ℕ → Bool} {B : ℕ → ℕ → Type 0} {x i j : ℕ} → Lone L lost B (row x) i j → RightStep L lost B (step 1 i j)
+row_right {L} {lost} {B} {x} {i} {j} y = by_row refl (subst (λ (h : ℕ). Lone L lost B (row h) i j) (sym y.on) y)
+
+pub diagonal_right : {L : Layout} {lost : ℕ → Bool} {B : ℕ → ℕ → Type 0} {d i j : ℕ} → Lone L lost B (diagonal d) i j → RightStep L lost B (step 2 i j)
+diagonal_right {L} {lost} {B} {d} {i} {j} y = by_diagonal refl (subst (λ (h : ℕ). Lone L lost B (diagonal h) i j) (sym y.on) y)
 
 -- a right step more
 pub right_more : {L : Layout} {lost : ℕ → Bool} {s t : List Step} {k e kind i j : ℕ} → Recorded s k kind i j t e

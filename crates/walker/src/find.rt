@@ -3,12 +3,12 @@ ghost use Rattle.std.specs.Prelude.{◌≡◌, ◌<◌, ◌≤◌, get_or, false
 ghost use Rattle.std.specs.List.{list_all};
 ghost use Rattle.code.specs.Drawn.{cell};
 ghost use Rattle.code.specs.Live.{row, diagonal};
-ghost use Rattle.walker.specs.Search.{Among, OpenAt, NextOn, FoundOn, StripBuilt};
+ghost use Rattle.walker.specs.Search.{OpenAt, NextOn, FoundOn, StripBuilt};
 
-use crate::lost::{Line, Lost};
+use crate::lost::Lost;
 
 impl Lost<'_> {
-    ghost use Rattle.walker.specs.Lines.{layout, lost, line_of};
+    ghost use Rattle.walker.specs.Lines.{layout, lost};
 
     // Is the element of row i in strip c on diagonal d and not built? Strip n has no data.
     fn open_at(&self, built: &[[bool; 32]; 32], c: usize, d: usize, i: usize) -> bool
@@ -35,7 +35,7 @@ impl Lost<'_> {
     }
 
     // The one unknown element of diagonal d, where the diagonal is live and has exactly one.
-    fn lone_on_diagonal(&self, built: &[[bool; 32]; 32], d: usize) -> Option<(usize, usize)>
+    pub fn lone_on_diagonal(&self, built: &[[bool; 32]; 32], d: usize) -> Option<(usize, usize)>
         requires { d < self.now.map.now.n }
         ensures { FoundOn (layout self.now) (lost self.now) built.now (diagonal d) result }
     {
@@ -52,7 +52,7 @@ impl Lost<'_> {
     }
 
     // The one unknown element of row i, where the row is live and has exactly one.
-    fn lone_in_row(&self, built: &[[bool; 32]; 32], i: usize) -> Option<(usize, usize)>
+    pub fn lone_in_row(&self, built: &[[bool; 32]; 32], i: usize) -> Option<(usize, usize)>
         requires { i < self.now.map.now.r }
         ensures { FoundOn (layout self.now) (lost self.now) built.now (row i) result }
     {
@@ -64,17 +64,6 @@ impl Lost<'_> {
             (true, false) => Some((i, self.b)),
             (false, false) if self.a == self.b => Some((i, self.b)),
             _ => None,
-        }
-    }
-
-    // The one unknown element of a line, where the line is live and has exactly one: its row and its strip.
-    pub fn lone(&self, built: &[[bool; 32]; 32], line: Line) -> Option<(usize, usize)>
-        requires { Among (layout self.now) (line_of line) }
-        ensures { FoundOn (layout self.now) (lost self.now) built.now (line_of line) result }
-    {
-        match line {
-            Line::Row(i) => self.lone_in_row(built, i),
-            Line::Diagonal(d) => self.lone_on_diagonal(built, d),
         }
     }
 

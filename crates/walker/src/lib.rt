@@ -6,21 +6,21 @@ mod lost;
 mod map;
 mod plan;
 
-ghost use Rattle.std.specs.Prelude.{◌+◌, ◌≤◌};
+ghost use Rattle.std.specs.Prelude.{◌+◌, ◌<◌, ◌≤◌};
 ghost use Rattle.code.specs.Layout.{pair};
+ghost use Rattle.code.specs.Live.{row, diagonal};
 ghost use Rattle.code.specs.Walk.{Walk};
 ghost use Rattle.walker.specs.Written.{written};
 ghost use Rattle.walker.specs.Map.{drawn_by};
-ghost use Rattle.walker.specs.Search.{Among};
 ghost use Rattle.walker.specs.Chain.{State, Stepped};
 ghost use Rattle.walker.specs.Sweep.{Swept};
 ghost use Rattle.walker.specs.Closing.{BuiltV, BuiltH};
 
-use crate::lost::{Line, Lost};
+use crate::lost::Lost;
 pub use map::Map;
 pub use plan::{Kind, Plan, Step};
 
-// What a walk hands back: its plan, and whether the plan builds every lost place. A plan that leaves some is right as far as it goes.
+// What a walk hands back: its plan, and whether the plan builds every lost place. No Option: `Walk` promises the plan that leaves some, too.
 #[derive(Clone, Copy)]
 pub struct Walked {
     pub plan: Plan,
@@ -34,21 +34,41 @@ struct Progress {
     plan: Plan,
 }
 
+// A row step opens a diagonal step and a diagonal step a row step: the specification names this form, so they are two functions that call each
+// other and not one over a line. Each leaves one unknown element less.
 impl Lost<'_> {
-    ghost use Rattle.walker.specs.Lines.{layout, lost, line_of};
+    ghost use Rattle.walker.specs.Lines.{layout, lost};
 
-    // Builds the one unknown element of the line, if it has one, and goes on by the other line through that element.
-    fn follow(&self, line: Line, so_far: &mut Progress)
-        requires line { Among (layout self.now) (line_of line) }
+    // Builds the one unknown element of row i, if it has one, and goes on by the diagonal of that element.
+    // Compiled into diagonal_step, it makes a chain a loop: judging the weak shape n=8 r=5 s=1 takes 6,237 instructions, and as calls 7,583.
+    #[cycle(chain)]
+    #[inline(always)]
+    fn row_step(&self, i: usize, so_far: &mut Progress)
+        requires row { i < self.now.map.now.r }
         requires state { State (layout self.now) (lost self.now) so_far.old.built so_far.old.plan.steps so_far.old.plan.count }
-        ensures { Stepped (layout self.now) (lost self.now) (line_of line) so_far.old.built so_far.new.built so_far.new.plan.steps so_far.new.plan.count }
+        ensures { Stepped (layout self.now) (lost self.now) (row i) so_far.old.built so_far.new.built so_far.new.plan.steps so_far.new.plan.count }
     {
-        let Some((i, j)) = self.lone(&so_far.built, line) else {
+        let Some((h, l)) = self.lone_in_row(&so_far.built, i) else {
             return;
         };
-        so_far.built[i][j] = true;
-        so_far.plan.push(line.kind(), i, j);
-        self.follow(self.across(line, i, j), so_far);
+        so_far.built[h][l] = true;
+        so_far.plan.push(Kind::ByRow, h, l);
+        self.diagonal_step(usize::from(self.map.diagonals[h][l]), so_far);
+    }
+
+    // Builds the one unknown element of diagonal d, if it has one, and goes on by the row of that element.
+    #[cycle(chain)]
+    fn diagonal_step(&self, d: usize, so_far: &mut Progress)
+        requires diagonal { d < self.now.map.now.n }
+        requires state { State (layout self.now) (lost self.now) so_far.old.built so_far.old.plan.steps so_far.old.plan.count }
+        ensures { Stepped (layout self.now) (lost self.now) (diagonal d) so_far.old.built so_far.new.built so_far.new.plan.steps so_far.new.plan.count }
+    {
+        let Some((h, l)) = self.lone_on_diagonal(&so_far.built, d) else {
+            return;
+        };
+        so_far.built[h][l] = true;
+        so_far.plan.push(Kind::ByDiagonal, h, l);
+        self.row_step(h, so_far);
     }
 
     // Follows the chains that start at a row, then those that start at a diagonal.
@@ -57,10 +77,10 @@ impl Lost<'_> {
         ensures { Swept (layout self.now) (lost self.now) so_far.new.built so_far.new.plan.steps so_far.new.plan.count self.now.map.now.r self.now.map.now.n }
     {
         for i in 0..self.map.r {
-            self.follow(Line::Row(i), so_far);
+            self.row_step(i, so_far);
         }
         for d in 0..self.map.n {
-            self.follow(Line::Diagonal(d), so_far);
+            self.diagonal_step(d, so_far);
         }
     }
 

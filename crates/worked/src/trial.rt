@@ -39,11 +39,11 @@ fn sound(shape: Shape, stripe: &[u8]) -> bool {
     stripe::scrub(n, r, s, E, stripe).is_ok_and(|x| x.rows == 0 && x.diagonals == 0)
 }
 
-// A lost set, the lines that its plan uses, marked with 1, and a sound stripe, which loses the set and is rebuilt in a room of its length.
+// A lost set, the lines that its plan uses, which are marked, and a sound stripe, which loses the set and is rebuilt in a room of its length.
 #[derive(Clone, Copy)]
 pub(crate) struct Trial<'a> {
     pub lost: LostSet,
-    used: [u8; 64],
+    used: [bool; 64],
     stripe: &'a [u8],
 }
 

@@ -23,18 +23,18 @@ fn line_of(shape: Shape, step: Step) -> usize
 }
 
 // Marks the lines that the steps of a plan use.
-fn mark(shape: Shape, plan: &Plan) -> [u8; 64]
+fn mark(shape: Shape, plan: &Plan) -> [bool; 64]
     requires steps { (u : ℕ) → u < plan.now.count → Shaped shape.n shape.r (written plan.now.steps u) }
 {
-    let mut used = [0u8; 64];
+    let mut used = [false; 64];
     for step in plan.steps() {
-        used[line_of(shape, *step)] = 1;
+        used[line_of(shape, *step)] = true;
     }
     used
 }
 
-// The lines that the plan for the strips a and b uses, marked with 1.
-pub(crate) fn used_lines(shape: Shape, a: usize, b: usize) -> [u8; 64]
+// Marks the lines that the plan for the strips a and b uses.
+pub(crate) fn used_lines(shape: Shape, a: usize, b: usize) -> [bool; 64]
     requires strips { (a ≤ b) × (b ≤ shape.n) }
 {
     let map = map_of(shape);
@@ -43,12 +43,12 @@ pub(crate) fn used_lines(shape: Shape, a: usize, b: usize) -> [u8; 64]
 }
 
 // Whether place p is the parity of a line that is not marked.
-pub(crate) fn unused_parity(shape: Shape, used: &[u8; 64], p: usize) -> bool {
+pub(crate) fn unused_parity(shape: Shape, used: &[bool; 64], p: usize) -> bool {
     let i = p % (shape.r + 1);
     let j = p / (shape.r + 1);
     if j < shape.n {
-        i == shape.r && used[shape.r + j] == 0
+        i == shape.r && !used[shape.r + j]
     } else {
-        used[i] == 0
+        !used[i]
     }
 }

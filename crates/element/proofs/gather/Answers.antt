@@ -2,7 +2,7 @@
 use Rattle.std.proofs.Common.{arith, sym, subst, length-take-le, ◌-◌, ◌%◌}
 use Rattle.element.specs.FilledLaws.{filled_all}
 use Rattle.element.specs.Gather.{Gathered}
-use Rattle.element.proofs.GatherLaws.{gathered_block, gathered_then, run_part}
+use Rattle.element.proofs.GatherLaws.{gathered_block, gathered_run, run_part}
 use Rattle.element.proofs.gather.Goals.{else-loop-k-test, then-loop-k-test+else-k-end-k-gt128}
 use Rattle.element.proofs.gather.Goals as goal
 
@@ -27,7 +27,7 @@ returns-then-rest c =
           (gathered_block _ _ c.args.e _ _ _ _ _ _ (omega arith) (omega arith) (omega arith) c.requires.2 c.loop-k.invariant.2
           w.sum-acc.ensures w.put.ensures)
     ] in
-    gathered_then _ _ c.args.e _ _ _ _ _ _ (omega (arith, length-take-le m c.sum-last.result (omega arith))) (omega arith) c.requires.2 whole
+    gathered_run _ _ c.args.e _ _ _ _ _ _ (omega (arith, length-take-le m c.sum-last.result (omega arith))) (omega arith) c.requires.2 whole
     (run_part _ _ _ (omega arith) c.sum-last.ensures) c.put-then-rest.ensures
 
 pub returns-else-rest : goal.returns-else-rest

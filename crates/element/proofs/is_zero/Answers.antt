@@ -30,5 +30,5 @@ returns c =
       | then-loop-k-test+else-not-all_zero+else-k-end-k-gt128 w ↦
           zero_block _ _ _ _ (omega arith) (omega arith) c.loop-k.invariant.2 w.sum-acc.ensures (w.all_zero.ensures.yes w.if-not-all_zero.false)
     ] in
-    tells_last _ _ _ (c.args.e - m) _ _ (omega (arith, length-take-le m c.sum-last.result (omega arith))) whole
+    tells_last _ _ _ (c.args.e - m) _ _ _ (omega (arith, length-take-le m c.sum-last.result (omega arith))) whole
     (run_part _ _ _ (omega arith) c.sum-last.ensures) c.all_zero-2.ensures

@@ -1,5 +1,5 @@
 -- `wrong_lines` meets its contract: from v on the wrong lines are counted, and `first` is the first of them. Assumes nothing.
-use Rattle.std.proofs.Common.{◌+◌, ◌≡◌, length}
+use Rattle.std.proofs.Common.{◌+◌}
 use Rattle.code.specs.Layout.{line}
 use Rattle.code.specs.Shift.{shift}
 use Rattle.lines.specs.Unbalanced.{unbalanced}
@@ -7,7 +7,5 @@ use Rattle.finding.specs.Tally.{Tallying}
 use Rattle.finding.proofs.wrong_lines.Given as goal
 
 abbrev pub invariant-loop-v : goal.invariant-loop-v
-invariant-loop-v l = record {
-  tallying : Tallying l.m (λ v. unbalanced l.shape.e l.stripe (line (shift l.shape.n l.shape.r l.shape.s) (l.from + v))) l.v l.count l.first;
-  room : length l.offs ≡ 33;
-}
+invariant-loop-v l =
+    Tallying l.m (λ v. unbalanced l.shape.e l.stripe (line (shift l.shape.n l.shape.r l.shape.s) (l.from + v))) l.v l.count l.first

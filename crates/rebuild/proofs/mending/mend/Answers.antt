@@ -5,7 +5,7 @@ use Rattle.shape.specs.LostLaws.{first_last, pair_lost}
 use Rattle.shape.specs.MaskEnds.{above_last}
 use Rattle.shape.specs.LimitsLaws.{limits_fair}
 use Rattle.rebuild.specs.LostStrips.{empty_lost}
-use Rattle.rebuild.proofs.PlanRunLaws.{zeros}
+use Rattle.rebuild.proofs.PlanRunLaws.{no_marks}
 use Rattle.rebuild.proofs.MendLaws.{mends_lost, mends_none}
 use Rattle.rebuild.proofs.mending.mend.Goals as goal
 
@@ -17,7 +17,7 @@ pub returns-then-mask-eq0 : goal.returns-then-mask-eq0
 returns-then-mask-eq0 c =
     mends_none _ (limits_fair c.args.shape.n c.args.shape.r c.args.shape.s _ c.args.shape.limits) _ _
     (λ j. ap (λ (m : ℕ). lost_in m j) ((search rules)) ∙ empty_lost j) c.args.stripe.now _
-    (record { size = c.requires.size; bytes = λ v lv. search rules }) (λ t. zeros 64 t) _ c.unused_zero.ensures
+    (record { size = c.requires.size; bytes = λ v lv. search rules }) (λ t. no_marks 64 t) _ c.unused_zero.ensures
 
 pub mend_pair-requires : goal.mend_pair-requires
 mend_pair-requires c =

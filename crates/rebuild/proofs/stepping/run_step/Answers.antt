@@ -3,14 +3,6 @@ use Rattle.shape.specs.LimitsLaws.{limits_fair}
 use Rattle.rebuild.specs.SteppingLaws.{builds_stepped}
 use Rattle.rebuild.proofs.stepping.run_step.Goals as goal
 
-pub build-requires : goal.build-requires
-build-requires c =
-    let w = c.where_built-t.ensures in
-    record { line = (w.below, w.within); size = c.requires.size; room = c.requires.room }
-
 pub returns : goal.returns
 returns c =
-    record {
-      stepped = builds_stepped _ (limits_fair _ _ _ _ c.args.shape.limits) _ _ _ _ c.where_built-t.ensures _ _ c.build.ensures.builds;
-      room = c.build.ensures.room;
-    }
+    builds_stepped _ (limits_fair _ _ _ _ c.args.shape.limits) _ _ _ _ c.where_built-t.ensures _ _ c.build.ensures

@@ -25,7 +25,8 @@ returns c =
     let few : count 64 (lost_in mask) ≤ 2 = omega (arith, c.lost_count-lost.ensures.is) in
     let bytes : (i : ℕ) → i < length c.args.stripe.now → get_or c.args.stripe.now i 0 < 256 = λ i li. search rules in
     record {
-      reply = rebuild_done _ c.args.body.now c.args.stripe.now c.requires mask body strips few bytes _ _ _ c.ruin.ensures c.rebuild.ensures _ (c.from.ensures ∙ c.lost_count-lost.ensures.is);
+      reply = rebuild_done _ c.args.body.now c.args.stripe.now c.requires mask body strips few bytes _ _ _ c.ruin.ensures c.rebuild.ensures _
+          (c.from.ensures ∙ c.lost_count-lost.ensures.is);
       stripe = (rebuild_back _ c.args.body.now c.args.stripe.now c.requires mask body strips few bytes _ _ _ c.ruin.ensures c.rebuild.ensures).1;
     }
 

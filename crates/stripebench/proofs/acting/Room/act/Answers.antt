@@ -5,9 +5,7 @@ use Rattle.stripebench.proofs.acting.Room.act.Goals as goal
 
 pub invariant_of-self : goal.invariant_of-self
 invariant_of-self c =
-    let h = c.in_ok-shape-in-Stripe.shape in
-    let set : c.args.self.now.shape ≡ Some h = search rules in
-    record {
-      holds = holds_set c.args.action c.in-Stripe.call c.in-Stripe.is c.args.body.now c.args.self.now.shape c.args.self.now.bytes h set c.args.self.now.holds _ _ c.at_start.ensures.len
-          c.at_start.ensures.calls;
-    }
+    let room = c.args.self.now in
+    let set : room.shape ≡ Some c.in_ok-shape-in-Stripe.shape = search rules in
+    let call = c.at_start.ensures in
+    record { holds = holds_set _ _ _ room.shape room.bytes set room.holds _ _ call.len call.calls }

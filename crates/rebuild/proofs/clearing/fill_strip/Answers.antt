@@ -1,8 +1,8 @@
--- `clear` meets its contract: the strip is one run of bytes, and it fits. Assumes nothing.
+-- `fill_strip` meets its contract: the strip is one run of bytes, and it fits. Assumes nothing.
 use Rattle.std.proofs.Common.{arith, mul-le-mul, ◌+◌, ◌≤◌}
 use Rattle.shape.specs.Answers.{bytes_most}
-use Rattle.rebuild.specs.ClearLaws.{clear_inside, filled_clears}
-use Rattle.rebuild.proofs.clearing.clear.Goals as goal
+use Rattle.rebuild.specs.ClearLaws.{clear_inside, filled_strip}
+use Rattle.rebuild.proofs.clearing.fill_strip.Goals as goal
 
 pub overflow_mul-d : goal.overflow_mul-d
 overflow_mul-d c =
@@ -22,8 +22,8 @@ overflow_mul-m c =
 
 pub fill-requires : goal.fill-requires
 fill-requires c =
-    (clear_inside _ c.args.shape.e _ _ c.requires.strip c.rows-m.ensures c.args.stripe.now c.requires.size)
+    clear_inside _ c.args.shape.e _ _ c.requires.strip c.rows-m.ensures c.args.stripe.now c.requires.size
 
 pub returns : goal.returns
 returns c =
-    filled_clears _ _ _ _ c.requires.strip c.rows-m.ensures _ _ c.fill.ensures
+    filled_strip _ _ _ _ c.requires.strip c.rows-m.ensures _ _ _ c.fill.ensures
