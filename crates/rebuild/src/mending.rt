@@ -10,6 +10,7 @@ ghost use Rattle.rebuild.specs.PlanRun.{PlanRun, Mends};
 use crate::clearing::clear;
 use crate::stepping::run_steps;
 use crate::testing::unused_zero;
+use lines::Stripe;
 use shape::Shape;
 use shape::lost::{first_lost, last_lost};
 use shape::map::map_of;
@@ -34,7 +35,11 @@ fn mend_pair(shape: Shape, a: usize, b: usize, stripe: &mut [u8]) -> bool
     ensures { Mends (layout_of shape) shape.e (pair a b) stripe.old stripe.new result }
 {
     let used = run(shape, a, b, stripe);
-    if unused_zero(shape, stripe, &used) {
+    let ran = Stripe {
+        shape,
+        bytes: stripe,
+    };
+    if unused_zero(ran, &used) {
         return true;
     }
     clear(shape, a, stripe);
@@ -52,7 +57,11 @@ pub fn mend(shape: Shape, stripe: &mut [u8], mask: u64) -> bool
 {
     if mask == 0 {
         let used = [false; 64];
-        return unused_zero(shape, stripe, &used);
+        let stripe = Stripe {
+            shape,
+            bytes: stripe,
+        };
+        return unused_zero(stripe, &used);
     }
     let a = first_lost(mask);
     let b = last_lost(mask);
