@@ -1,14 +1,14 @@
 // What is wrong with a stripe: how many rows and diagonals have a wrong parity, and which element that finds.
 #![tactic(auto)]
 
-ghost use Rattle.std.specs.Prelude.{◌≡◌, ◌+◌, ◌≤◌, ◌<◌, length};
+ghost use Rattle.std.specs.Prelude.{◌≡◌, ◌+◌, ◌≤◌, ◌<◌};
 ghost use Rattle.code.specs.Layout.{line};
-ghost use Rattle.shape.specs.Shape.{layout_of, size_of};
+ghost use Rattle.shape.specs.Shape.{layout_of};
 ghost use Rattle.lines.specs.Unbalanced.{unbalanced};
 ghost use Rattle.finding.specs.Found.{found_of, Finds};
 ghost use Rattle.finding.specs.Tally.{Tallied};
 
-use lines::{Listing, wrong_line};
+use lines::{Listing, Stripe};
 use shape::Shape;
 
 #[derive(Clone, Copy)]
@@ -40,16 +40,15 @@ struct Tally {
 }
 
 // The wrong ones among the m lines from line `from` on. They are read from the last down, so that the last one found is the first.
-fn wrong_lines(shape: Shape, stripe: &[u8], from: usize, m: usize) -> Tally
-    requires size { length stripe.now ≡ size_of shape }
-    requires run { from + m ≤ shape.r + shape.n }
-    ensures { Tallied m (λ v. unbalanced shape.e stripe.now (line (layout_of shape) (from + v))) result.count result.first }
+fn wrong_lines(stripe: Stripe<'_>, from: usize, m: usize) -> Tally
+    requires run { from + m ≤ stripe.shape.r + stripe.shape.n }
+    ensures { Tallied m (λ v. unbalanced stripe.entry.shape.e stripe.entry.bytes.now (line (layout_of stripe.entry.shape) (from + v))) result.count result.first }
 {
     let mut count: usize = 0;
     let mut first = m;
     let mut listing = Listing::new();
     for v in (0..m).rev() {
-        if wrong_line(shape, stripe, from + v, &mut listing) {
+        if stripe.wrong_line(from + v, &mut listing) {
             count += 1;
             first = v;
         }
@@ -78,15 +77,15 @@ fn found(shape: Shape, rows: Tally, diagonals: Tally) -> Finding
     }
 }
 
-// Scrub of a buffer of the shape's size: each line is listed and read once.
-pub fn scrub_shape(shape: Shape, stripe: &[u8]) -> Counts
-    requires { length stripe.now ≡ size_of shape }
-    ensures { Finds (layout_of shape) shape.e stripe.now result }
+// Scrub of a stripe: each line is listed and read once.
+pub fn scrub_shape(stripe: Stripe<'_>) -> Counts
+    ensures { Finds (layout_of stripe.entry.shape) stripe.entry.shape.e stripe.entry.bytes.now result }
 {
+    let shape = stripe.shape;
     let r = shape.r;
     let n = shape.n;
-    let rows = wrong_lines(shape, stripe, 0, r);
-    let diagonals = wrong_lines(shape, stripe, r, n);
+    let rows = wrong_lines(stripe, 0, r);
+    let diagonals = wrong_lines(stripe, r, n);
     let a = rows.count;
     let b = diagonals.count;
     let finding = found(shape, rows, diagonals);

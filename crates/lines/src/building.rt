@@ -8,6 +8,7 @@ use crate::listing::Listing;
 use shape::Shape;
 
 // Place v of line t becomes the sum of the others. The listing is room that the caller lends.
+// Shape and bytes apart: a struct that holds the &mut needs two clauses, same shape and same reference, for each one on the length.
 pub fn build(shape: Shape, t: usize, v: usize, listing: &mut Listing, stripe: &mut [u8])
     requires line { (t < shape.r + shape.n) × (v < length (line (layout_of shape) t)) }
     requires size { length stripe.old ≡ size_of shape }

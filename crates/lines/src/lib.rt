@@ -3,8 +3,8 @@
 
 mod building;
 mod listing;
-mod testing;
+mod stripes;
 
 pub use building::build;
 pub use listing::{Listing, place};
-pub use testing::wrong_line;
+pub use stripes::Stripe;

@@ -11,6 +11,7 @@ ghost use Rattle.rebuild.specs.PlanRun.{PlanRun, Mends};
 use crate::clearing::fill_strip;
 use crate::stepping::run_steps;
 use crate::testing::unused_zero;
+use lines::Stripe;
 use shape::Shape;
 use shape::lost::{first_lost, last_lost};
 use shape::map::map_of;
@@ -35,7 +36,11 @@ fn mend_pair(shape: Shape, a: usize, b: usize, stripe: &mut [u8]) -> bool
     ensures { Mends (layout_of shape) shape.e (pair a b) stripe.old stripe.new result }
 {
     let used = run(shape, a, b, stripe);
-    if unused_zero(shape, stripe, &used) {
+    let ran = Stripe {
+        shape,
+        bytes: stripe,
+    };
+    if unused_zero(ran, &used) {
         return true;
     }
     fill_strip(shape, a, 0, stripe);
@@ -53,7 +58,11 @@ pub fn mend(shape: Shape, stripe: &mut [u8], mask: u64) -> bool
 {
     if mask == 0 {
         let used = [false; 64];
-        return unused_zero(shape, stripe, &used);
+        let stripe = Stripe {
+            shape,
+            bytes: stripe,
+        };
+        return unused_zero(stripe, &used);
     }
     let a = first_lost(mask);
     let b = last_lost(mask);

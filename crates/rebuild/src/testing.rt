@@ -1,21 +1,19 @@
 // The lines that no step used, tested.
-ghost use Rattle.std.specs.Prelude.{◌≡◌, length};
-ghost use Rattle.shape.specs.Shape.{layout_of, size_of};
+ghost use Rattle.std.specs.Prelude.{◌≡◌};
+ghost use Rattle.shape.specs.Shape.{layout_of};
 ghost use Rattle.rebuild.specs.Testing.{Tests};
 
-use lines::Listing;
-use shape::Shape;
+use lines::{Listing, Stripe};
 
 // Whether every line that has no mark sums to zero in every byte.
-pub fn unused_zero(shape: Shape, stripe: &[u8], used: &[bool; 64]) -> bool
-    requires { length stripe.now ≡ size_of shape }
-    ensures { Tests (layout_of shape) shape.e used.now stripe.now result }
+pub fn unused_zero(stripe: Stripe<'_>, used: &[bool; 64]) -> bool
+    ensures { Tests (layout_of stripe.entry.shape) stripe.entry.shape.e used.now stripe.entry.bytes.now result }
 {
-    let m = shape.r + shape.n;
+    let m = stripe.shape.r + stripe.shape.n;
     let mut listing = Listing::new();
     for t in 0..m {
         let unused = !used[t];
-        if unused && lines::wrong_line(shape, stripe, t, &mut listing) {
+        if unused && stripe.wrong_line(t, &mut listing) {
             return false;
         }
     }

@@ -14,6 +14,7 @@ ghost use Rattle.stripe.specs.Read.{read_number, read_part};
 ghost use Rattle.stripe.specs.Scrub.{Scrubs};
 
 use finding::Counts;
+use lines::Stripe;
 use shape::{Refusal, Shape};
 
 // Lines 1 to 6: the judged shape, which is refused also where the buffer's length is not its size.
@@ -98,7 +99,11 @@ pub fn read(
     if place::outside(shape, row, strip, 0, 0) {
         return none;
     }
-    reading::part(shape, stripe, row, strip)
+    let stripe = Stripe {
+        shape,
+        bytes: stripe,
+    };
+    reading::part(stripe, row, strip)
 }
 
 // Counts the rows whose H is wrong and the diagonals whose U is wrong, and says what that finds.
@@ -107,6 +112,10 @@ pub fn scrub(n: usize, r: usize, s: usize, e: usize, stripe: &[u8]) -> Result<Co
 {
     let len = stripe.len();
     let shape = opened(n, r, s, e, len)?;
-    let counts = finding::scrub_shape(shape, stripe);
+    let stripe = Stripe {
+        shape,
+        bytes: stripe,
+    };
+    let counts = finding::scrub_shape(stripe);
     Ok(counts)
 }

@@ -16,8 +16,8 @@ found-finding-requires c =
 
 pub returns : goal.returns
 returns c =
-    let L = shift c.args.shape.n c.args.shape.r c.args.shape.s in
-    let p = tallied_rows L c.args.shape.e c.args.stripe.now _ _ c.wrong_lines-rows.ensures in
-    let fair = shift_fair c.args.shape.n c.args.shape.r c.args.shape.s (omega arith) in
-    let q = tallied_diagonals L c.args.shape.e c.args.stripe.now fair _ _ c.wrong_lines-diagonals.ensures in
-    finds_tallied L c.args.shape.e c.args.stripe.now _ _ _ _ p q _ c.found-finding.ensures
+    let L = shift c.args.stripe.shape.n c.args.stripe.shape.r c.args.stripe.shape.s in
+    let p = tallied_rows L c.args.stripe.shape.e c.args.stripe.bytes.now _ _ c.wrong_lines-rows.ensures in
+    let fair = shift_fair c.args.stripe.shape.n c.args.stripe.shape.r c.args.stripe.shape.s (omega arith) in
+    let q = tallied_diagonals L c.args.stripe.shape.e c.args.stripe.bytes.now fair _ _ c.wrong_lines-diagonals.ensures in
+    finds_tallied L c.args.stripe.shape.e c.args.stripe.bytes.now _ _ _ _ p q _ c.found-finding.ensures

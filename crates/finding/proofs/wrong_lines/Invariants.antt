@@ -8,4 +8,4 @@ use Rattle.finding.proofs.wrong_lines.Given as goal
 
 abbrev pub invariant-loop-v : goal.invariant-loop-v
 invariant-loop-v l =
-    Tallying l.m (λ v. unbalanced l.shape.e l.stripe (line (shift l.shape.n l.shape.r l.shape.s) (l.from + v))) l.v l.count l.first
+    Tallying l.m (λ v. unbalanced l.stripe.shape.e l.stripe.bytes.now (line (shift l.stripe.shape.n l.stripe.shape.r l.stripe.shape.s) (l.from + v))) l.v l.count l.first

@@ -1,6 +1,6 @@
 -- `stripe::read` meets its contract: see `Calls`. Assumes nothing.
 use Rattle.std.proofs.Common.{sym, ◌∙◌}
-use Rattle.stripe.specs.Calls.{shape_size, inside_shape, read_none, read_outside, read_inside}
+use Rattle.stripe.specs.Calls.{inside_shape, read_none, read_outside, read_inside}
 use Rattle.stripe.proofs.read.Goals as goal
 
 pub returns-in_default : goal.returns-in_default
@@ -14,10 +14,7 @@ returns-then-outside c =
 pub part-requires : goal.part-requires
 part-requires c =
     let inside = inside_shape _ _ _ _ c.args.stripe.now _ c.opened.ensures _ c.in-Ok.is _ _ 0 0 (sym c.outside.ensures ∙ c.if-outside.false) in
-    record {
-      size = shape_size _ _ _ _ c.args.stripe.now _ c.opened.ensures _ c.in-Ok.is;
-      place = (inside.0, inside.1);
-    }
+    record { place = (inside.0, inside.1) }
 
 pub returns : goal.returns
 returns c =

@@ -9,10 +9,6 @@ use Rattle.rebuild.proofs.PlanRunLaws.{no_marks}
 use Rattle.rebuild.proofs.MendLaws.{mends_lost, mends_none}
 use Rattle.rebuild.proofs.mending.mend.Goals as goal
 
-pub unused_zero-requires : goal.unused_zero-requires
-unused_zero-requires c =
-    c.requires.size
-
 pub returns-then-mask-eq0 : goal.returns-then-mask-eq0
 returns-then-mask-eq0 c =
     mends_none _ (limits_fair c.args.shape.n c.args.shape.r c.args.shape.s _ c.args.shape.limits) _ _

@@ -6,10 +6,6 @@ use Rattle.rebuild.proofs.PlanRunLaws.{ran_size, ran_mended, ran_cleared}
 use Rattle.rebuild.proofs.MendLaws.{both_kept, both_zero}
 use Rattle.rebuild.proofs.mending.mend_pair.Goals as goal
 
-pub unused_zero-requires : goal.unused_zero-requires
-unused_zero-requires c =
-    ran_size _ (limits_fair _ _ _ _ c.args.shape.limits) _ _ _ _ _ c.run-used.ensures ∙ c.requires.size
-
 pub returns-then-unused_zero : goal.returns-then-unused_zero
 returns-then-unused_zero c =
     record {

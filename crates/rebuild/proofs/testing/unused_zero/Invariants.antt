@@ -5,4 +5,4 @@ use Rattle.rebuild.proofs.testing.unused_zero.Given as goal
 
 abbrev pub invariant-loop-t : goal.invariant-loop-t
 invariant-loop-t l =
-    Passed (shift l.shape.n l.shape.r l.shape.s) l.shape.e l.used l.stripe l.t
+    Passed (shift l.stripe.shape.n l.stripe.shape.r l.stripe.shape.s) l.stripe.shape.e l.used l.stripe.bytes.now l.t

@@ -6,16 +6,16 @@ use Rattle.stripe.proofs.reading.part.Goals as goal
 
 pub overflow_mul-a : goal.overflow_mul-a
 overflow_mul-a c =
-    omega (arith, (part_inside (shift c.args.shape.n c.args.shape.r c.args.shape.s) c.args.shape.e c.args.row c.args.strip c.args.stripe.now c.requires.size c.place.result c.place.ensures.below))
+    omega (arith, (part_inside (shift c.args.stripe.shape.n c.args.stripe.shape.r c.args.stripe.shape.s) c.args.stripe.shape.e c.args.row c.args.strip c.args.stripe.bytes.now c.args.stripe.sized c.place.result c.place.ensures.below))
 
 pub overflow_add-b : goal.overflow_add-b
 overflow_add-b c =
-    omega (arith, (part_inside (shift c.args.shape.n c.args.shape.r c.args.shape.s) c.args.shape.e c.args.row c.args.strip c.args.stripe.now c.requires.size c.place.result c.place.ensures.below))
+    omega (arith, (part_inside (shift c.args.stripe.shape.n c.args.stripe.shape.r c.args.stripe.shape.s) c.args.stripe.shape.e c.args.row c.args.strip c.args.stripe.bytes.now c.args.stripe.sized c.place.result c.place.ensures.below))
 
 pub slice_bounds-result-end : goal.slice_bounds-result-end
 slice_bounds-result-end c =
-    omega (arith, (part_inside (shift c.args.shape.n c.args.shape.r c.args.shape.s) c.args.shape.e c.args.row c.args.strip c.args.stripe.now c.requires.size c.place.result c.place.ensures.below))
+    omega (arith, (part_inside (shift c.args.stripe.shape.n c.args.stripe.shape.r c.args.stripe.shape.s) c.args.stripe.shape.e c.args.row c.args.strip c.args.stripe.bytes.now c.args.stripe.sized c.place.result c.place.ensures.below))
 
 pub returns : goal.returns
 returns c =
-    part_is (shift c.args.shape.n c.args.shape.r c.args.shape.s) c.args.shape.e c.args.row c.args.strip c.args.stripe.now c.place.result c.place.ensures.is
+    part_is (shift c.args.stripe.shape.n c.args.stripe.shape.r c.args.stripe.shape.s) c.args.stripe.shape.e c.args.row c.args.strip c.args.stripe.bytes.now c.place.result c.place.ensures.is
