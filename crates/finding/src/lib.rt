@@ -11,7 +11,7 @@ ghost use Rattle.finding.specs.Tally.{Tallied};
 use lines::{Listing, Stripe};
 use shape::Shape;
 
-#[derive(Clone, Copy)]
+#[derive(Clone, Copy, Debug, PartialEq, Eq)]
 pub enum Finding {
     Sound,
     // H of this row.
@@ -24,7 +24,7 @@ pub enum Finding {
 }
 
 // How many rows have a wrong H and how many diagonals a wrong U, and what that finds.
-#[derive(Clone, Copy)]
+#[derive(Clone, Copy, Debug, PartialEq, Eq)]
 pub struct Counts {
     pub rows: usize,
     pub diagonals: usize,

@@ -3,7 +3,7 @@ ghost use Rattle.std.specs.Prelude.{◌≡◌, ◌+◌, ◌<◌, ◌≤◌};
 
 // What a step builds, and by which line; one byte.
 #[repr(u8)]
-#[derive(Clone, Copy)]
+#[derive(Clone, Copy, Debug, PartialEq, Eq)]
 pub enum Kind {
     // A data element, by its row.
     ByRow,
@@ -17,7 +17,7 @@ pub enum Kind {
 
 // The place of row `row` in strip `strip` is built. A step is three bytes, and row and strip are no `usize`, for speed: a walk fills 66 steps and
 // hands them back, and with `usize` judging the weak shape n=8 r=5 s=1 took 10,199 instructions, with bytes 7,626.
-#[derive(Clone, Copy)]
+#[derive(Clone, Copy, Debug, PartialEq, Eq)]
 pub struct Step {
     pub kind: Kind,
     pub row: u8,
