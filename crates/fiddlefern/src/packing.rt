@@ -26,7 +26,8 @@ pub fn packed_answer(x: Result<(), Refusal>) -> u64
     }
 }
 
-// A finding's number, the row that comes with it, and the diagonal or the strip; 0 where none does.
+// A finding's number, the row that comes with it, and the diagonal or the strip; 0 where none does, and no Option: the word of the C interface has
+// a place for each.
 fn values(f: Finding) -> (u64, usize, usize)
     ensures { result ≡ finding_values f }
 {

@@ -1,4 +1,4 @@
-// Lines on the bytes of a stripe: encode, scrub and rebuild have the places of a line from `Listing` alone, build by `build` and test by `wrong_line`.
+// Lines on the bytes of a stripe: encode, scrub and rebuild have the places of a line from `Listing` alone, built by `build`, tested by `wrong_line`.
 #![tactic(auto)]
 
 mod building;

@@ -16,7 +16,8 @@ use shape::Shape;
 use shape::lost::{first_lost, last_lost};
 use shape::map::map_of;
 
-// Runs the walker's plan for the strips a and b on the bytes, and marks the lines that it used.
+// Runs the walker's plan for the strips a and b on the bytes, and marks the lines that it used. The two are a clause and no struct: the walker's
+// Lost is that struct, and needs the map that is made here.
 fn run(shape: Shape, a: usize, b: usize, stripe: &mut [u8]) -> [bool; 64]
     requires good { Good shape.n shape.r shape.s }
     requires strips { (a ≤ b) × (b ≤ shape.n) }

@@ -18,7 +18,7 @@ pub enum Refusal {
 }
 
 impl Refusal {
-    // The number that comes back.
+    // The number that comes back. It is no From for u64, since a refusal gives two values, and a conversion would not say which.
     pub fn number(self) -> u64
         ensures { result ≡ number_of self }
     {

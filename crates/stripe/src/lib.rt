@@ -79,7 +79,8 @@ pub fn read_check(
     Ok(())
 }
 
-// The element of this row and strip, as that part of the stripe; an empty part where read_check refuses.
+// The element of this row and strip, as that part of the stripe; an empty part, and no Result, where read_check refuses:
+// read cannot fail, and read_check has the reason.
 pub fn read(
     n: usize,
     r: usize,

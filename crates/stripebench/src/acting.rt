@@ -43,6 +43,7 @@ impl Room {
     }
 
     // Does what a record of this action and body says. Without a shape every call on the stripe is refused.
+    // It is a match, since the two need different things: a call needs a shape, and judge makes one.
     pub fn act(&mut self, action: Action, body: &[u8; 8]) -> Result<Reply, Refused>
         ensures { Acts action body.now self.old.shape self.old.bytes self.new.shape self.new.bytes (numbered refused_number result) }
     {
@@ -57,7 +58,7 @@ impl Room {
 }
 
 // Does what the call says, on the stripe at the start of the bytes. `act` lends them whole: of a field of a struct with a ghost field no part
-// is lent as `&mut` yet.
+// is lent as `&mut`.
 fn at_start(call: Call, shape: Shape, body: &[u8; 8], bytes: &mut [u8]) -> Result<Reply, Refusal>
     requires fits { size_of shape ≤ length bytes.old }
     requires ready { Ready shape (take (size_of shape) bytes.old) }

@@ -71,7 +71,7 @@ fn read(shape: Shape, body: &[u8; 8], stripe: &[u8]) -> Result<Reply, Refusal>
     Ok(Reply::One(u64::from(element[0])))
 }
 
-// Does what the call says.
+// Does what the call says. It is a match, since the four take different arguments, the stripe lent to write or to read.
 pub fn on_stripe(
     call: Call,
     shape: Shape,

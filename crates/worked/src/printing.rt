@@ -33,7 +33,7 @@ impl Display for Found {
     }
 }
 
-// The number of an answer: 0 where the call is done.
+// The number of an answer: 0 where the call is done. It is no From, since neither type is of this crate.
 fn number(answer: Result<(), Refusal>) -> u64 {
     answer.err().map_or(0, |refusal| refusal.number())
 }

@@ -49,7 +49,7 @@ pub(crate) struct Trial<'a> {
 
 impl<'a> Trial<'a> {
     pub(crate) fn new(lost: LostSet, stripe: &'a [u8]) -> Self {
-        let used = used_lines(lost.shape, lost.a, lost.b);
+        let used = used_lines(lost);
         Trial { lost, used, stripe }
     }
 

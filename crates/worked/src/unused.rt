@@ -1,14 +1,15 @@
 // The lines that no step of the plan uses, told from the walker's steps alone.
-ghost use Rattle.std.specs.Prelude.{ℕ, ◌<◌, ◌≤◌};
+ghost use Rattle.std.specs.Prelude.{ℕ, ◌<◌};
 ghost use Rattle.walker.specs.Written.{read, written};
 ghost use Rattle.rebuild.specs.Stepping.{Shaped};
 
+use crate::lost_set::LostSet;
 use shape::Shape;
 use shape::map::map_of;
 use walker::{Kind, Plan, Step};
 
 // The line that a step uses: its row, its diagonal, or the diagonal whose U the strip stores.
-// It does not ask rebuild, whose marks it is there to check.
+// Nothing here asks rebuild, whose marks it is there to check.
 fn line_of(shape: Shape, step: Step) -> usize
     requires shaped { Shaped shape.n shape.r (read step) }
     ensures { result < 64 }
@@ -33,13 +34,11 @@ fn mark(shape: Shape, plan: &Plan) -> [bool; 64]
     used
 }
 
-// Marks the lines that the plan for the strips a and b uses.
-pub(crate) fn used_lines(shape: Shape, a: usize, b: usize) -> [bool; 64]
-    requires strips { (a ≤ b) × (b ≤ shape.n) }
-{
-    let map = map_of(shape);
-    let plan = walker::walk(&map, a, b).plan;
-    mark(shape, &plan)
+// Marks the lines that the plan for a lost set uses.
+pub(crate) fn used_lines(lost: LostSet) -> [bool; 64] {
+    let map = map_of(lost.shape);
+    let plan = walker::walk(&map, lost.a, lost.b).plan;
+    mark(lost.shape, &plan)
 }
 
 // Whether place p is the parity of a line that is not marked.
