@@ -7,7 +7,6 @@ use Rattle.code.specs.Layout.{X}
 use Rattle.code.specs.Shift.{shift}
 use Rattle.shape.specs.declared.shapes.Shape.{Shape}
 use Rattle.shape.specs.declared.refusal.Refusal.{Refusal}
-use Rattle.shape.specs.Refusal.{lower_of, upper_of}
 use Rattle.shape.specs.Answers.{bytes_most}
 use Rattle.shape.specs.Call.{call_number, answer_number, Answered, Answer}
 use Rattle.shape.specs.Judge.{Judges, Judged}
@@ -56,8 +55,8 @@ rebuild_small n r s e mask before after x a =
 -- ---- read
 
 module _ (n r s e i j : ℕ) (b : List ℕ) (x : Answer) (a : Answered n r s (read_number n r s e (length b) i j) x) where
-  pub check_small : (y : Refusal) → x ≡ Err y → (lower_of y ≤ 32) × (upper_of y ≤ 32)
-  check_small y q = (answer_small n r s e (length b) (pick (place_outside n r e i j 0 0) 9 0) x a).pair y q
+  pub check_small : SmallAnswer x
+  check_small = answer_small n r s e (length b) (pick (place_outside n r e i j 0 0) 9 0) x a
 
   module _ (q : x ≡ Ok tt) where
     accepted : Accepted n r s e (length b) i j 0 0

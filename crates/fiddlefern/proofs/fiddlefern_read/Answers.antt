@@ -25,7 +25,7 @@ overflow_mul-result-in-Ok-2 c =
 
 pub packed-requires : goal.packed-requires
 packed-requires c =
-    check_small _ _ _ c.args.e c.args.row c.args.strip c.args.stripe.now _ c.read_check.ensures _ c.in-Err.is
+    (check_small _ _ _ c.args.e c.args.row c.args.strip c.args.stripe.now _ c.read_check.ensures).pair _ c.in-Err.is
 
 pub returns-in-Ok : goal.returns-in-Ok
 returns-in-Ok c =
