@@ -1,5 +1,5 @@
--- A list of sources taken part by part: the chunks that as_chunks gives, and one source of what it leaves. Assumes nothing.
-use Rattle.std.specs.Prelude.{◌≡◌, List, [], ◌∷◌, ℕ, zero, suc, ◌+◌, ◌*◌, ◌/◌, ◌≤◌, ◌<◌, length, get_or, drop}
+-- A list of sources taken part by part: the chunks that as_rchunks gives, and one source of what it leaves. Assumes nothing.
+use Rattle.std.specs.Prelude.{◌≡◌, List, [], ◌∷◌, ℕ, zero, suc, ◌+◌, ◌*◌, ◌≤◌, ◌<◌, length, get_or, take, drop}
 use Rattle.std.proofs.Common.{sym, ap, subst, ◌∙◌, not-suc-le-zero, arith, length-drop, get_or-take, get_or-drop, length-take-le}
 use Rattle.std.proofs.Math.Nat.{mul-le-mul_left}
 use Rattle.std.specs.Simd.{first_chunks}
@@ -28,17 +28,11 @@ chunk_each n (suc c) (suc j) i os h lt =
     let e : n + (n * j + i) ≡ n * suc j + i = omega arith in
     chunk_each n c j i (drop n os) (omega arith) lt ∙ get_or-drop n os (n * j + i) 0 ∙ ap (λ (x : ℕ). get_or os x 0) e
 
--- chunk j of those that as_chunks gives
-pub chunk_of : (n j : ℕ) (os : List ℕ) (fs : List (List ℕ)) → 0 < n → fs ≡ first_chunks n (length os / n) os → j < length os / n
+-- chunk j of c
+pub chunk_of : (n c j : ℕ) (os : List ℕ) (fs : List (List ℕ)) → n * c ≤ length os → fs ≡ first_chunks n c os → j < c
     → (length (get_or fs j []) ≡ n) × Part os (n * j) (get_or fs j [])
-chunk_of n j os fs p e lt = subst (λ (x : List (List ℕ)). (length (get_or x j []) ≡ n) × Part os (n * j) (get_or x j [])) (sym e) (long, part)
+chunk_of n c j os fs room e lt = subst (λ (x : List (List ℕ)). (length (get_or x j []) ≡ n) × Part os (n * j) (get_or x j [])) (sym e) (long, part)
   where
-    c : ℕ
-    c = length os / n
-
-    room : n * c ≤ length os
-    room = omega arith
-
     long : length (get_or (first_chunks n c os) j []) ≡ n
     long = length_chunk n c j os room lt
 
@@ -49,13 +43,21 @@ chunk_of n j os fs p e lt = subst (λ (x : List (List ℕ)). (length (get_or x j
           each = λ i x. chunk_each n c j i os lt (omega (arith, long));
         }
 
--- ---- what is left, one by one
+-- a part of what follows the first a
+pub part_after : (os qs : List ℕ) (a j : ℕ) → a ≤ length os → Part (drop a os) j qs → Part os (a + j) qs
+part_after os qs a j h p =
+    record {
+      within = omega (arith, p.within, length-drop a os);
+      each = λ i lt. p.each i lt ∙ get_or-drop a os (j + i) 0 ∙ ap (λ (x : ℕ). get_or os x 0) (omega arith);
+    }
 
-pub part_one : (os rest : List ℕ) (a j : ℕ) → rest ≡ drop a os → j < length rest → Part os (a + j) (get_or rest j 0 ∷ [])
-part_one os rest a j e lt = record { within = omega (arith, ap length e, length-drop a os); each = each }
+-- ---- the first few, one by one
+
+pub part_one : (os few : List ℕ) (a j : ℕ) → a ≤ length os → few ≡ take a os → j < length few → Part os j (get_or few j 0 ∷ [])
+part_one os few a j h e lt = record { within = omega (arith, ap length e, length-take-le a os h); each = each }
   where
-    each : (i : ℕ) → i < 1 → get_or (get_or rest j 0 ∷ []) i 0 ≡ get_or os ((a + j) + i) 0
+    each : (i : ℕ) → i < 1 → get_or (get_or few j 0 ∷ []) i 0 ≡ get_or os (j + i) 0
     each zero l =
-        let z : a + j ≡ (a + j) + 0 = omega arith in
-        ap (λ (x : List ℕ). get_or x j 0) e ∙ get_or-drop a os j 0 ∙ ap (λ (x : ℕ). get_or os x 0) z
+        let z : j ≡ j + 0 = omega arith in
+        ap (λ (x : List ℕ). get_or x j 0) e ∙ get_or-take a os j 0 (omega (arith, ap length e, length-take-le a os h)) ∙ ap (λ (x : ℕ). get_or os x 0) z
     each (suc i) l = absurd (omega arith)

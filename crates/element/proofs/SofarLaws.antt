@@ -1,6 +1,6 @@
 -- The loops of sum and of add: a block after its first j sources, a byte of it after the first i of a part. Assumes nothing.
 use Rattle.std.specs.Prelude.{◌≡◌, List, ℕ, zero, suc, ◌+◌, ◌≤◌, length, get_or, replicate}
-use Rattle.std.proofs.Common.{sym, ap, ap₂, ◌∙◌, le_antisymm, arith}
+use Rattle.std.proofs.Common.{sym, ap, ap₂, ◌∙◌, subst, le_antisymm, arith}
 use Rattle.std.proofs.lemmas.List.{length-replicate, get_or-replicate}
 use Rattle.code.specs.Xor.{◌⊕◌, ⊕_assoc, ⊕_zero}
 use Rattle.code.specs.Sum.{sum_to}
@@ -20,6 +20,9 @@ sofar_none s os k m h =
       within = omega arith;
       each = λ t lt. get_or-replicate {A = ℕ} 128 t 0 0 (omega arith) ∙ sym (sum_to_none (λ i. from s (k + t) (get_or os i 0)));
     }
+
+pub sofar_at : (s os : List ℕ) (k m j l : ℕ) (a : List ℕ) → l ≡ j → Sofar s os k m j a → Sofar s os k m l a
+sofar_at s os k m j l a e p = subst (λ (i : ℕ). Sofar s os k m i a) (sym e) p
 
 -- a sum of n more
 sum_to_then : (j n : ℕ) (f : ℕ → ℕ) → sum_to (j + n) f ≡ sum_to j f ⊕ sum_to n (λ i. f (j + i))

@@ -28,7 +28,7 @@ pub fn delta(s: &[u8], d: usize, v: &[u8], c: usize, m: usize) -> [u8; 128]
     ensures { Filled (replicate 128 0) 0 m (λ t. get_or s.now (d + t) 0 ⊕ get_or v.now (c + t) 0) result }
 {
     let mut a = [0; 128];
-    // a range: by put and add_at, with slices, a write of one byte costs 276 instructions, and 244 so
+    // a range: by put and add_at, with slices, a write of one byte took 276 instructions, and 244 so
     for t in 0..m {
         a[t] = s[d + t] ^ v[c + t];
     }

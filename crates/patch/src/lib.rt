@@ -49,7 +49,7 @@ fn patch(stripe: &mut [u8], e: usize, t: Touched, o: usize, block: &[u8])
 }
 
 // The run written at row, strip and offset, whatever the stripe holds: blocks of 128 bytes, and what is left of the run. They are not the `chunks` of
-// the run, whose last may be shorter: 4096 bytes then cost 6592 instructions and not 2891, as no block is known to have 128.
+// the run, whose last may be shorter: 4096 bytes then took 6592 instructions and not 2891, as no block is known to have 128.
 pub fn write_shape(
     shape: Shape,
     stripe: &mut [u8],
