@@ -24,7 +24,7 @@ fn start(shape: Shape, i: usize, j: usize) -> usize
 
 // A line as a list: the first `count` of the numbers are the bytes where its elements start, its parity last. No line has more than 33.
 // It is an array, and no Vec, since nothing here may use the heap.
-#[derive(Clone, Copy)]
+#[derive(Clone, Copy, Debug, PartialEq, Eq)]
 pub struct Listing {
     pub starts: [usize; 33],
     pub count: usize,

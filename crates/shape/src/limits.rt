@@ -4,7 +4,7 @@ ghost use Rattle.shape.specs.Limits.{outside};
 ghost use Rattle.shape.specs.Within.{Within};
 
 use crate::refusal::Refusal;
-use crate::shapes::Shape;
+pub use crate::shapes::Shape;
 
 // Whether x is not among low to high.
 fn outside(low: usize, high: usize, x: usize) -> bool

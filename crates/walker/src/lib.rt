@@ -40,7 +40,7 @@ impl Lost<'_> {
     ghost use Rattle.walker.specs.Lines.{layout, lost};
 
     // Builds the one unknown element of row i, if it has one, and goes on by the diagonal of that element.
-    // Compiled into diagonal_step, it makes a chain a loop: judging the weak shape n=8 r=5 s=1 takes 6,237 instructions, and as calls 7,583.
+    // Compiled into diagonal_step, it makes a chain a loop: judging the weak shape n=8 r=5 s=1 took 6,237 instructions so, and as calls 7,583.
     #[cycle(chain)]
     #[inline(always)]
     fn row_step(&self, i: usize, so_far: &mut Progress)

@@ -4,8 +4,8 @@ ghost use Rattle.code.specs.Drawn.{drawn};
 ghost use Rattle.code.specs.Layout.{Fair};
 
 // Of n data strips and r rows: the diagonal of each row in each data strip, and the strip that stores each diagonal's U.
-// It is 1 KiB, so it is lent or moved and never copied.
-#[derive(Drop)]
+// It is 1 KiB: it can be copied, as the arrays that it holds, and a walk has it lent.
+#[derive(Clone, Copy, Debug, PartialEq, Eq)]
 pub struct Map {
     pub diagonals: [[u8; 32]; 32],
     pub homes: [u8; 32],

@@ -26,7 +26,7 @@ pub struct Step {
 
 // The first `count` of the steps are written down. It is an array, and no Vec, since nothing here may use the heap; two lost strips have at most
 // 66 places.
-#[derive(Clone, Copy)]
+#[derive(Clone, Copy, Debug, PartialEq, Eq)]
 pub struct Plan {
     pub steps: [Step; 66],
     pub count: usize,
