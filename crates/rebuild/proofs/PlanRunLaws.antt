@@ -12,11 +12,17 @@ use Rattle.rebuild.specs.RunBytes.{run_stripe}
 use Rattle.rebuild.specs.WholePlan.{nothing_planned}
 use Rattle.rebuild.specs.Marks.{marked_none}
 
--- a table of false has no mark
+-- a table of one value reads as that value everywhere, also past its end: so a table of zeros is zero, and a table of false has no mark
+same_everywhere : {A : Type 0} (x : A) (m t : ℕ) → get_or (replicate m x) t x ≡ x
+same_everywhere x zero t = refl
+same_everywhere x (suc m) zero = refl
+same_everywhere x (suc m) (suc t) = same_everywhere x m t
+
+pub zeros : (m t : ℕ) → ◌≡◌ {A = ℕ} (get_or (replicate m 0) t 0) 0
+zeros = same_everywhere 0
+
 pub no_marks : (m t : ℕ) → get_or (replicate m false) t false ≡ false
-no_marks zero t = refl
-no_marks (suc m) zero = refl
-no_marks (suc m) (suc t) = no_marks m t
+no_marks = same_everywhere false
 
 -- where nothing is lost, nothing has to run
 pub no_run : (L : Layout) (e : ℕ) (lost : ℕ → Bool) → ((j : ℕ) → lost j ≡ false) → (s : List ℕ) (used : List Bool) → ((t : ℕ) → get_or used t false ≡ false) → PlanRun L e lost s s used

@@ -12,7 +12,7 @@ pub use mending::mend;
 use shape::Refusal;
 use shape::lost::{above, lost_count};
 
-// The strips of the mask are lost: the stripe becomes the sound one that agrees with the rest.
+// The strips of the mask are lost: the stripe becomes the sound one that agrees with the rest. At the head `let .. else`, as SPEC 12 names it.
 pub fn rebuild(
     n: usize,
     r: usize,
@@ -23,7 +23,10 @@ pub fn rebuild(
 ) -> Result<(), Refusal>
     ensures { Rebuilds n r s e mask stripe.old stripe.new result }
 {
-    let shape = stripe::opened(n, r, s, e, stripe.len())?;
+    let judged = stripe::opened(n, r, s, e, stripe.len());
+    let Ok((shape, _)) = judged else {
+        return Err(judged.unwrap_err());
+    };
     if above(mask, n) {
         return Err(Refusal::Mask);
     }

@@ -1,5 +1,5 @@
 -- How the calls meet their contracts, from the opened buffer on. Assumes nothing.
-use Rattle.std.specs.Prelude.{◌≡◌, true, false, List, [], ℕ, ◌+◌, ◌*◌, ◌≤◌, ◌<◌, length, take, drop, Result, Err, Ok}
+use Rattle.std.specs.Prelude.{◌≡◌, true, false, List, [], ℕ, ◌+◌, ◌*◌, ◌≤◌, ◌<◌, length, take, drop, Err, Ok}
 use Rattle.std.proofs.Common.{◌∙◌}
 use Rattle.code.specs.Layout.{X}
 use Rattle.code.specs.Shift.{shift}
@@ -8,6 +8,7 @@ use Rattle.shape.specs.declared.refusal.Refusal.{Refusal}
 use Rattle.shape.specs.declared.refusal.Refusal.TheVariants.{Place}
 use Rattle.shape.specs.WithinLaws.{of_shape, to_numbers}
 use Rattle.shape.specs.Call.{bytes_of, Answered}
+use Rattle.shape.specs.Judge.{Judged}
 use Rattle.patch.specs.Written.{written_over}
 use Rattle.finding.specs.declared.Counts.{Counts}
 use Rattle.finding.specs.Found.{Finds}
@@ -22,7 +23,7 @@ use Rattle.stripe.specs.ReadLaws.{reads_refused, reads_done}
 use Rattle.stripe.specs.Scrub.{Scrubs}
 use Rattle.stripe.specs.ScrubAnswers.{scrubs_refused, scrubs_counted}
 
-module _ (n r s e : ℕ) (b : List ℕ) (x : Result Shape Refusal) (o : Opens n r s e (length b) x) where
+module _ (n r s e : ℕ) (b : List ℕ) (x : Judged) (o : Opens n r s e (length b) x) where
   -- ---- the shape or the length is refused
 
   module _ (y : Refusal) (q : x ≡ Err y) where
@@ -43,30 +44,30 @@ module _ (n r s e : ℕ) (b : List ℕ) (x : Result Shape Refusal) (o : Opens n 
 
   -- ---- the shape is good
 
-  module _ (h : Shape) (q : x ≡ Ok h) where
+  module _ (h : Shape) (c : ℕ) (q : x ≡ Ok (h, c)) where
     -- what holds of the shape's numbers holds of the four, and back
     from_shape : (P : ℕ → ℕ → ℕ → ℕ → Type 0) → P h.n h.r h.s h.e → P n r s e
-    from_shape P p = of_shape n r s e h (o.opened h q).shape P p
+    from_shape P p = of_shape n r s e h (o.opened h c q).shape P p
 
     to_shape : (P : ℕ → ℕ → ℕ → ℕ → Type 0) → P n r s e → P h.n h.r h.s h.e
-    to_shape P p = to_numbers n r s e h (o.opened h q).shape P p
+    to_shape P p = to_numbers n r s e h (o.opened h c q).shape P p
 
     pub shape_size : length b ≡ bytes_of h.n h.r h.e
-    shape_size = to_shape (λ n r s e. length b ≡ bytes_of n r e) (o.opened h q).sized
+    shape_size = to_shape (λ n r s e. length b ≡ bytes_of n r e) (o.opened h c q).sized
 
     pub encode_done : (a : List ℕ) → EncodedFrom (shift h.n h.r h.s) h.e b a → Encodes n r s e b a (Ok tt)
     encode_done a p =
-        encodes_done n r s e b (o.opened h q).limits (o.opened h q).good a (o.opened h q).sized (from_shape (λ n r s e. EncodedFrom (shift n r s) e b a) p)
+        encodes_done n r s e b (o.opened h c q).limits (o.opened h c q).good a (o.opened h c q).sized (from_shape (λ n r s e. EncodedFrom (shift n r s) e b a) p)
 
     module _ (i j k len : ℕ) where
       pub outside_answered : place_outside h.n h.r h.e i j k len ≡ true → Answered n r s (write_number n r s e (length b) i j k len) (Err Place)
       outside_answered t =
-          answered_outside n r s e (length b) i j k len (o.opened h q).limits (o.opened h q).good (o.opened h q).sized
+          answered_outside n r s e (length b) i j k len (o.opened h c q).limits (o.opened h c q).good (o.opened h c q).sized
           (from_shape (λ n r s e. place_outside n r e i j k len ≡ true) t)
 
       pub inside_answered : place_outside h.n h.r h.e i j k len ≡ false → Answered n r s (write_number n r s e (length b) i j k len) (Ok tt)
       inside_answered t =
-          answered_done n r s e (length b) i j k len (o.opened h q).limits (o.opened h q).good (o.opened h q).sized
+          answered_done n r s e (length b) i j k len (o.opened h c q).limits (o.opened h c q).good (o.opened h c q).sized
           (from_shape (λ n r s e. place_outside n r e i j k len ≡ false) t)
 
       pub inside_shape : place_outside h.n h.r h.e i j k len ≡ false → (i < h.r) × (j < h.n) × (k + len ≤ h.e)
@@ -88,7 +89,7 @@ module _ (n r s e : ℕ) (b : List ℕ) (x : Result Shape Refusal) (o : Opens n 
     read_inside i j p t w =
         from_shape (λ n r s e. p ≡ take e (drop (X (shift n r s) i j * e) b)) w ∙ reads_done n r s e i j b (inside_answered i j 0 0 t)
 
-    pub scrub_counted : (c : Counts) → Finds (shift h.n h.r h.s) h.e b c → Scrubs n r s e b (Ok c)
-    scrub_counted c w =
-        scrubs_counted n r s e b (o.opened h q).limits (o.opened h q).good c (o.opened h q).sized
-        (from_shape (λ n r s e. Finds (shift n r s) e b c) w)
+    pub scrub_counted : (d : Counts) → Finds (shift h.n h.r h.s) h.e b d → Scrubs n r s e b (Ok d)
+    scrub_counted d w =
+        scrubs_counted n r s e b (o.opened h c q).limits (o.opened h c q).good d (o.opened h c q).sized
+        (from_shape (λ n r s e. Finds (shift n r s) e b d) w)

@@ -1,5 +1,5 @@
 -- How a buffer is opened: from judge's answer and the buffer's length; and what a call's number 0 says. Assumes nothing.
-use Rattle.std.specs.Prelude.{◌≡◌, refl, ◌≢◌, Bool, true, false, ℕ, eqb, Result, Ok, Err}
+use Rattle.std.specs.Prelude.{◌≡◌, refl, ◌≢◌, Bool, true, false, ℕ, eqb, Ok, Err}
 use Rattle.std.proofs.Common.{sym, ap, ◌∙◌, subst, arith, eqb-true}
 use Rattle.code.specs.Sum.{pick}
 use Rattle.code.specs.Bound.{Good}
@@ -11,41 +11,56 @@ use Rattle.shape.specs.LimitsLaws.{first_outside}
 use Rattle.shape.specs.GoodTest.{good_test, test_good}
 use Rattle.shape.specs.Call.{bytes_of, call_number, Answered}
 use Rattle.shape.specs.Judge.{Judged, Judges}
+use Rattle.shape.specs.JudgeLaws.{good_refused}
 use Rattle.shape.specs.JudgedCall.{refused_answered, good_limits, good_good, length_answered}
 use Rattle.stripe.specs.Opened.{Opened, Opens}
 
--- an answer is not both
-opened_refused : {A : Type 0} (h : Shape) (x : Refusal) → ◌≡◌ {A = Result Shape Refusal} (Ok h) (Err x) → A
-opened_refused h x z = absurd (let q : ◌≡◌ {A = ℕ} 0 1 = cc in omega arith)
-
 module _ (n r s e len : ℕ) (x : Judged) (j : Judges n r s e x) where
   pub opens_refused : (y : Refusal) → x ≡ Err y → Opens n r s e len (Err y)
-  opens_refused y q = record { opened = λ h w. opened_refused h y (sym w); refused = λ z w last. refused_answered n r s e x j z (it z w) len last }
+  opens_refused y q =
+      record {
+        opened = λ h b w. good_refused h b y (sym w);
+        size = λ h b w. good_refused h b y (sym w);
+        refused = λ z w last. refused_answered n r s e x j z (it z w) len last;
+      }
     where
-      it : (z : Refusal) → ◌≡◌ {A = Result Shape Refusal} (Err y) (Err z) → x ≡ Err z
+      it : (z : Refusal) → ◌≡◌ {A = Judged} (Err y) (Err z) → x ≡ Err z
       it z w = let k : y ≡ z = cc in q ∙ ap Err k
 
   module _ (h : Shape) (b : ℕ) (q : x ≡ Ok (h, b)) where
     pub opens_length : len ≢ b → Opens n r s e len (Err Length)
     opens_length ne =
         record {
-          opened = λ g w. opened_refused g Length (sym w);
+          opened = λ g c w. good_refused g c Length (sym w);
+          size = λ g c w. good_refused g c Length (sym w);
           refused = λ z w last.
               subst (λ (y : Refusal). Answered n r s (call_number n r s e len last) (Err y)) (it z w)
               (length_answered n r s e (good_limits n r s e x j h b q) (good_good n r s e x j h b q) len last (λ z. ne (z ∙ sym (j.good h b q).1)));
         }
       where
-        it : (z : Refusal) → ◌≡◌ {A = Result Shape Refusal} (Err Length) (Err z) → Length ≡ z
+        it : (z : Refusal) → ◌≡◌ {A = Judged} (Err Length) (Err z) → Length ≡ z
         it z w = cc
 
-    pub opens_good : len ≡ b → Opens n r s e len (Ok h)
-    opens_good l = record { opened = λ g w. subst (λ (k : Shape). Opened n r s e len k) (it g w) here; refused = λ z w last. opened_refused h z w }
+    pub opens_good : len ≡ b → Opens n r s e len (Ok (h, b))
+    opens_good l =
+        record {
+          opened = λ g c w. subst (λ (k : Shape). Opened n r s e len k) (same g c w) here;
+          size = λ g c w. all g c w ∙ sym l;
+          refused = λ z w last. good_refused h b z w;
+        }
       where
         here : Opened n r s e len h
         here = record { shape = (j.good h b q).0; limits = good_limits n r s e x j h b q; good = good_good n r s e x j h b q; sized = l ∙ (j.good h b q).1 }
 
-        it : (g : Shape) → ◌≡◌ {A = Result Shape Refusal} (Ok h) (Ok g) → h ≡ g
-        it g w = cc
+        parts : Judged → Shape × ℕ
+        parts (Ok p) = p
+        parts (Err y) = (h, b)
+
+        same : (g : Shape) (c : ℕ) → ◌≡◌ {A = Judged} (Ok (h, b)) (Ok (g, c)) → h ≡ g
+        same g c w = ap (λ (k : Judged). (parts k).0) w
+
+        all : (g : Shape) (c : ℕ) → ◌≡◌ {A = Judged} (Ok (h, b)) (Ok (g, c)) → c ≡ b
+        all g c w = sym (ap (λ (k : Judged). (parts k).1) w)
 
 -- ---- number 0
 

@@ -1,4 +1,5 @@
-// The calls on a stripe: encode, write, read, scrub. Each takes any numbers and any buffer, and checks for itself, in 01's order.
+// The calls on a stripe: encode, write, read, scrub. Each takes any numbers and any buffer, and checks for itself, in 01's order. At the head
+// of each stands `let .. else` on the judged shape, the form that SPEC 12 names, and no `?`.
 #![tactic(auto)]
 
 mod encoding;
@@ -17,8 +18,8 @@ use finding::Counts;
 use lines::Stripe;
 use shape::{Refusal, Shape};
 
-// Lines 1 to 6: the judged shape, which is refused also where the buffer's length is not its size.
-pub fn opened(n: usize, r: usize, s: usize, e: usize, len: usize) -> Result<Shape, Refusal>
+// Lines 1 to 6: the judged shape with its size, which is refused also where the buffer's length is not that size.
+pub fn opened(n: usize, r: usize, s: usize, e: usize, len: usize) -> Result<(Shape, usize), Refusal>
     ensures { Opens n r s e len result }
 {
     let (shape, size) = shape::judge(n, r, s, e)?;
@@ -26,14 +27,17 @@ pub fn opened(n: usize, r: usize, s: usize, e: usize, len: usize) -> Result<Shap
     if other {
         return Err(Refusal::Length);
     }
-    Ok(shape)
+    Ok((shape, size))
 }
 
 // Keeps all data and sets every H and U.
 pub fn encode(n: usize, r: usize, s: usize, e: usize, stripe: &mut [u8]) -> Result<(), Refusal>
     ensures { Encodes n r s e stripe.old stripe.new result }
 {
-    let shape = opened(n, r, s, e, stripe.len())?;
+    let judged = opened(n, r, s, e, stripe.len());
+    let Ok((shape, _)) = judged else {
+        return Err(judged.unwrap_err());
+    };
     encoding::encode_shape(shape, stripe);
     Ok(())
 }
@@ -52,7 +56,10 @@ pub fn write(
 ) -> Result<(), Refusal>
     ensures { Writes n r s e row strip offset run.now stripe.old stripe.new result }
 {
-    let shape = opened(n, r, s, e, stripe.len())?;
+    let judged = opened(n, r, s, e, stripe.len());
+    let Ok((shape, _)) = judged else {
+        return Err(judged.unwrap_err());
+    };
     if place::outside(shape, row, strip, offset, run.len()) {
         return Err(Refusal::Place);
     }
@@ -72,7 +79,10 @@ pub fn read_check(
 ) -> Result<(), Refusal>
     ensures { Answered n r s (read_number n r s e (length stripe.now) row strip) result }
 {
-    let shape = opened(n, r, s, e, stripe.len())?;
+    let judged = opened(n, r, s, e, stripe.len());
+    let Ok((shape, _)) = judged else {
+        return Err(judged.unwrap_err());
+    };
     if place::outside(shape, row, strip, 0, 0) {
         return Err(Refusal::Place);
     }
@@ -94,7 +104,7 @@ pub fn read(
 {
     let len = stripe.len();
     let none = &stripe[0..0];
-    let Ok(shape) = opened(n, r, s, e, len) else {
+    let Ok((shape, _)) = opened(n, r, s, e, len) else {
         return none;
     };
     if place::outside(shape, row, strip, 0, 0) {
@@ -112,7 +122,10 @@ pub fn scrub(n: usize, r: usize, s: usize, e: usize, stripe: &[u8]) -> Result<Co
     ensures { Scrubs n r s e stripe.now result }
 {
     let len = stripe.len();
-    let shape = opened(n, r, s, e, len)?;
+    let judged = opened(n, r, s, e, len);
+    let Ok((shape, _)) = judged else {
+        return Err(judged.unwrap_err());
+    };
     let stripe = Stripe {
         shape,
         bytes: stripe,

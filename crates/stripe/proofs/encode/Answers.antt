@@ -1,16 +1,15 @@
 -- `stripe::encode` meets its contract: see `Calls`. Assumes nothing.
-use Rattle.shape.proofs.Exit.{exit_is}
 use Rattle.stripe.specs.Calls.{shape_size, encode_refused, encode_done}
 use Rattle.stripe.proofs.encode.Goals as goal
 
-pub returns-in_err-shape : goal.returns-in_err-shape
-returns-in_err-shape c =
-    rw (exit_is _ c.from_residual.ensures.1) (encode_refused _ _ _ _ c.args.stripe.now _ c.opened.ensures _ c.in_err-shape.was)
+pub returns-in_default : goal.returns-in_default
+returns-in_default c =
+    encode_refused _ _ _ _ c.args.stripe.now _ c.opened-judged.ensures _ c.unwrap_err.ensures
 
 pub encode_shape-requires : goal.encode_shape-requires
 encode_shape-requires c =
-    shape_size _ _ _ _ c.args.stripe.now _ c.opened.ensures _ c.in_ok-shape.was
+    shape_size _ _ _ _ c.args.stripe.now _ c.opened-judged.ensures _ _ c.in-Ok.is
 
 pub returns : goal.returns
 returns c =
-    encode_done _ _ _ _ c.args.stripe.now _ c.opened.ensures _ c.in_ok-shape.was _ c.encode_shape.ensures
+    encode_done _ _ _ _ c.args.stripe.now _ c.opened-judged.ensures _ _ c.in-Ok.is _ c.encode_shape.ensures

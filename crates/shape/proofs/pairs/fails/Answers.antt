@@ -6,4 +6,4 @@ use Rattle.shape.proofs.pairs.fails.Goals as goal
 
 pub returns : goal.returns
 returns c =
-    walk_exact (drawn_by c.args.map.now) c.args.map.now.fair c.requires.latin _ _ _ _ _ c.walk.ensures
+    walk_exact (drawn_by c.args.map) c.args.map.fair c.requires.latin _ _ _ _ _ c.walk.ensures
