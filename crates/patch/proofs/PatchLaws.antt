@@ -1,6 +1,6 @@
 -- The steps of a write: three additions are a patch, a patch after a patch is one, and a change leaves no byte open. Assumes nothing.
 use Rattle.std.specs.Prelude.{◌≡◌, refl, ◌≢◌, List, ◌++◌, ℕ, ◌+◌, ◌*◌, ◌-◌, ◌≤◌, ◌<◌, length, get_or, replicate, take, drop}
-use Rattle.std.proofs.Common.{sym, ap, ap₂, ◌∙◌, subst, inl, inr, ⊎_elim, arith, get_or-take, length-take-le}
+use Rattle.std.proofs.Common.{sym, ap, ap₂, ◌∙◌, subst, inl, inr, ⊎_elim, le_antisymm, arith, get_or-take, length-take-le}
 use Rattle.std.proofs.Math.Decide.{ℕ_discrete, dec_lt}
 use Rattle.std.proofs.lemmas.List.{length-replicate, get_or-drop}
 use Rattle.std.proofs.Math.ListN.{get_or-append}
@@ -62,6 +62,16 @@ module _ (L : Layout) (F : Fair L) (i j : ℕ) (li : i < L.r) (lj : j < L.n) whe
 pub block_length : (m : ℕ) (f : ℕ → ℕ) (d : List ℕ) → m ≤ 128 → Filled (replicate 128 0) 0 m f d → length (take m d) ≡ m
 block_length m f d l p = length-take-le m d (omega (arith, p.long, length-replicate {A = ℕ} 128 0))
 
+-- the same patch where the new bytes are the same
+pub patched_new : (e x h u o m : ℕ) (w v : ℕ → ℕ) (s t : List ℕ) → ((k : ℕ) → o ≤ k → k < o + m → w k ≡ v k)
+    → Patched e x h u o m w s t → Patched e x h u o m v s t
+patched_new e x h u o m w v s t q p =
+    record {
+      long = p.long;
+      inside = λ k lo lk. subst (λ (b : ℕ). Changed x h u (at s e k x ⊕ b) (at s e k) (at t e k)) (q k lo lk) (p.inside k lo lk);
+      outside = p.outside;
+    }
+
 module _ (e x h u o : ℕ) where
   -- old ⊕ new added at three places
   patched_sums : (m : ℕ) (w b : ℕ → ℕ) (s t v y : List ℕ) → x ≢ h → x ≢ u → h ≢ u → o + m ≤ e
@@ -81,14 +91,14 @@ module _ (e x h u o : ℕ) where
       }
 
   -- the same from what the code does: old ⊕ new taken at x into a block d, and its first m bytes added at all three
-  pub patched_fills : (s v d t₁ t₂ t₃ : List ℕ) (m : ℕ) → Spots s e x h u → o + m ≤ e → m ≤ 128
-      → Filled (replicate 128 0) 0 m (λ k. get_or s (x * e + o + k) 0 ⊕ get_or v (0 + k) 0) d
+  pub patched_fills : (m c : ℕ) (s v d t₁ t₂ t₃ : List ℕ) → Spots s e x h u → o + m ≤ e → m ≤ 128
+      → Filled (replicate 128 0) 0 m (λ k. get_or s (x * e + o + k) 0 ⊕ get_or v (c + k) 0) d
       → Filled s (x * e + o) (length (take m d)) (λ k. get_or s (x * e + o + k) 0 ⊕ get_or (take m d) k 0) t₁
       → Filled t₁ (h * e + o) (length (take m d)) (λ k. get_or t₁ (h * e + o + k) 0 ⊕ get_or (take m d) k 0) t₂
       → Filled t₂ (u * e + o) (length (take m d)) (λ k. get_or t₂ (u * e + o + k) 0 ⊕ get_or (take m d) k 0) t₃
-      → Patched e x h u o m (λ k. get_or v (k - o) 0) s t₃
-  patched_fills s v d t₁ t₂ t₃ m z f lm old p q g =
-      patched_sums m (λ k. get_or v (k - o) 0) (λ k. get_or (take m d) (k - o) 0) s t₁ t₂ t₃ z.x_h z.x_u z.h_u f delta
+      → Patched e x h u o m (λ k. get_or v (c + (k - o)) 0) s t₃
+  patched_fills m c s v d t₁ t₂ t₃ z f lm old p q g =
+      patched_sums m (λ k. get_or v (c + (k - o)) 0) (λ k. get_or (take m d) (k - o) 0) s t₁ t₂ t₃ z.x_h z.x_u z.h_u f delta
       (placed x s t₁ p) (placed h t₁ t₂ q) (placed u t₂ t₃ g)
     where
       placed : (y : ℕ) (a b : List ℕ) → Filled a (y * e + o) (length (take m d)) (λ k. get_or a (y * e + o + k) 0 ⊕ get_or (take m d) k 0) b
@@ -97,56 +107,60 @@ module _ (e x h u o : ℕ) where
           filled_added_at a e y o m (y * e + o) (λ k. get_or (take m d) k 0) b refl f
           (subst (λ (l : ℕ). Filled a (y * e + o) l (λ k. get_or a (y * e + o + k) 0 ⊕ get_or (take m d) k 0) b) (block_length m _ d lm old) w)
 
-      delta : (k : ℕ) → o ≤ k → k < o + m → get_or (take m d) (k - o) 0 ≡ at s e k x ⊕ get_or v (k - o) 0
+      delta : (k : ℕ) → o ≤ k → k < o + m → get_or (take m d) (k - o) 0 ≡ at s e k x ⊕ get_or v (c + (k - o)) 0
       delta k lo lk =
           let i : x * e + o + (k - o) ≡ x * e + k = omega arith in
-          let n : 0 + (k - o) ≡ k - o = omega arith in
           get_or-take m d (k - o) 0 (omega arith)
-          ∙ (filled_begins (replicate 128 0) m (λ l. get_or s (x * e + o + l) 0 ⊕ get_or v (0 + l) 0) d old).each (k - o) (omega arith)
-          ∙ ap₂ (λ (a b : ℕ). get_or s a 0 ⊕ get_or v b 0) i n
+          ∙ (filled_begins (replicate 128 0) m (λ l. get_or s (x * e + o + l) 0 ⊕ get_or v (c + l) 0) d old).each (k - o) (omega arith)
+          ∙ ap (λ (l : ℕ). get_or s l 0 ⊕ get_or v (c + (k - o)) 0) i
 
   -- ---- block after block
 
   pub patched_none : (w : ℕ → ℕ) (s : List ℕ) → Patched e x h u o 0 w s s
   patched_none w s = record { long = refl; inside = λ k lo lk. absurd (omega arith); outside = λ c k lk z. refl }
 
-  -- the first c bytes of the run v, and after them the block w
-  pub patched_more : (c : ℕ) (v w z s t y : List ℕ) → drop c v ≡ w ++ z → o + (c + length w) ≤ e → Patched e x h u o c (λ k. get_or v (k - o) 0) s t
-      → Patched e x h u (o + c) (length w) (λ k. get_or w (k - (o + c)) 0) t y → Patched e x h u o (c + length w) (λ k. get_or v (k - o) 0) s y
-  patched_more c v w z s t y cut f p q =
+  -- the first c bytes of the run v, and after them m more
+  pub patched_more : (c m : ℕ) (v s t y : List ℕ) → o + (c + m) ≤ e → Patched e x h u o c (λ k. get_or v (k - o) 0) s t
+      → Patched e x h u (o + c) m (λ k. get_or v (c + (k - (o + c))) 0) t y → Patched e x h u o (c + m) (λ k. get_or v (k - o) 0) s y
+  patched_more c m v s t y f p q =
       record {
         long = q.long ∙ p.long;
         inside = λ k lo lk. go k lo lk (dec_lt k (o + c));
-        outside = λ a k lk i.
-            q.outside a k lk (⊎_elim (λ (b : k < o). inl (omega arith)) (λ (b : o + (c + length w) ≤ k). inr (omega arith)) i)
-            ∙ p.outside a k lk (⊎_elim (λ (b : k < o). inl b) (λ (b : o + (c + length w) ≤ k). inr (omega arith)) i);
+        outside = λ a k lk z.
+            q.outside a k lk (⊎_elim (λ (b : k < o). inl (omega arith)) (λ (b : o + (c + m) ≤ k). inr (omega arith)) z)
+            ∙ p.outside a k lk (⊎_elim (λ (b : k < o). inl b) (λ (b : o + (c + m) ≤ k). inr (omega arith)) z);
       }
     where
       new : ℕ → ℕ
       new k = get_or v (k - o) 0
 
-      -- what a byte of the block is in the run
-      here : (k : ℕ) → o + c ≤ k → k < o + (c + length w) → get_or w (k - (o + c)) 0 ≡ new k
+      go : (k : ℕ) → o ≤ k → k < o + (c + m) → Dec (k < o + c) → Changed x h u (at s e k x ⊕ get_or v (k - o) 0) (at s e k) (at y e k)
+      go k lo lk (yes z) =
+          changed_same x h u (at s e k x ⊕ new k) (at s e k x ⊕ new k) (at s e k) (at s e k) (at t e k) (at y e k) refl (λ a. refl)
+          (λ a. q.outside a k (omega arith) (inl z)) (p.inside k lo z)
+      go k lo lk (no n) =
+          let z : o + c ≤ k = omega arith in
+          let i : c + (k - (o + c)) ≡ k - o = omega arith in
+          changed_same x h u (at t e k x ⊕ get_or v (c + (k - (o + c))) 0) (at s e k x ⊕ new k) (at t e k) (at s e k) (at y e k) (at y e k)
+          (ap₂ ◌⊕◌ (p.outside x k (omega arith) (inr z)) (ap (λ (l : ℕ). get_or v l 0) i))
+          (λ a. sym (p.outside a k (omega arith) (inr z)))
+          (λ a. refl) (q.inside k z (omega arith))
+
+  -- the same of a block w that the run v has there
+  pub patched_block : (c : ℕ) (v w z s t y : List ℕ) → drop c v ≡ w ++ z → o + (c + length w) ≤ e → Patched e x h u o c (λ k. get_or v (k - o) 0) s t
+      → Patched e x h u (o + c) (length w) (λ k. get_or w (k - (o + c)) 0) t y → Patched e x h u o (c + length w) (λ k. get_or v (k - o) 0) s y
+  patched_block c v w z s t y cut f p q = patched_more c (length w) v s t y f p (patched_new e x h u (o + c) (length w) _ _ t y here q)
+    where
+      here : (k : ℕ) → o + c ≤ k → k < o + c + length w → get_or w (k - (o + c)) 0 ≡ get_or v (c + (k - (o + c))) 0
       here k lo lk =
           sym (get_or-append w z 0 (k - (o + c)) (omega arith))
           ∙ ap (λ (l : List ℕ). get_or l (k - (o + c)) 0) (sym cut)
           ∙ get_or-drop c v (k - (o + c)) 0
           ∙ ap (λ (i : ℕ). get_or v i 0) (omega arith)
 
-      go : (k : ℕ) → o ≤ k → k < o + (c + length w) → Dec (k < o + c) → Changed x h u (at s e k x ⊕ get_or v (k - o) 0) (at s e k) (at y e k)
-      go k lo lk (yes b) =
-          changed_same x h u (at s e k x ⊕ new k) (at s e k x ⊕ new k) (at s e k) (at s e k) (at t e k) (at y e k) refl (λ a. refl)
-          (λ a. q.outside a k (omega arith) (inl b)) (p.inside k lo b)
-      go k lo lk (no n) =
-          let b : o + c ≤ k = omega arith in
-          changed_same x h u (at t e k x ⊕ get_or w (k - (o + c)) 0) (at s e k x ⊕ new k) (at t e k) (at s e k) (at y e k) (at y e k)
-          (ap₂ ◌⊕◌ (p.outside x k (omega arith) (inr b)) (here k b lk))
-          (λ a. sym (p.outside a k (omega arith) (inr b)))
-          (λ a. refl) (q.inside k b (omega arith))
-
-  -- the loop's end
-  pub patched_all : (c m : ℕ) (w : ℕ → ℕ) (s t : List ℕ) → c ≡ m → Patched e x h u o c w s t → Patched e x h u o m w s t
-  patched_all c m w s t q p = subst (λ (n : ℕ). Patched e x h u o n w s t) q p
+  -- a loop's end: l is at most m and not below it
+  pub patched_all : (l m : ℕ) (w : ℕ → ℕ) (s t : List ℕ) → l ≤ m → m ≤ l → Patched e x h u o l w s t → Patched e x h u o m w s t
+  patched_all l m w s t b c p = subst (λ (n : ℕ). Patched e x h u o n w s t) (le_antisymm b c) p
 
 -- ---- a change leaves no byte open
 

@@ -4,7 +4,7 @@ use Rattle.std.proofs.lemmas.List.{drop-drop, take_all}
 use Rattle.std.proofs.Math.Seq.{drop-append_seam}
 use Rattle.code.specs.Shift.{shift}
 use Rattle.code.proofs.ShiftLaws.{shift_fair}
-use Rattle.patch.proofs.PatchLaws.{touches_spots, touches_patched, patched_more, patched_all}
+use Rattle.patch.proofs.PatchLaws.{touches_spots, touches_patched, patched_block, patched_all}
 use Rattle.patch.proofs.WrittenLaws.{patched_written}
 use Rattle.patch.proofs.write_shape.Goals as goal
 
@@ -39,7 +39,7 @@ loop-block-preserved c =
       size = search rules;
       rest = cut_rest _ _ _ _ cut;
       within = within;
-      patched = patched_more _ _ _ _ _ _ _ _ _ _ _ _ cut (omega arith) inv.patched c.patch.ensures;
+      patched = patched_block _ _ _ _ _ _ _ _ _ _ _ _ cut (omega arith) inv.patched c.patch.ensures;
     }
 
 pub patch-requires-then-left-clause-spots : goal.patch-requires-then-left-clause-spots
@@ -57,8 +57,8 @@ returns-then-left c =
     let end = cut_end c.loop-block.c a.run.now inv.within in
     patched_written L a.shape.e a.row a.strip a.offset a.run.now a.stripe.now F c.requires.place.0 c.requires.place.1 c.requires.size _
     (touches_patched L F a.row a.strip c.requires.place.0 c.requires.place.1 a.shape.e a.offset (length a.run.now) _ _ _ c.places-t.result c.places-t.ensures
-    (patched_all _ _ _ _ _ _ _ _ _ _ end
-    (patched_more _ _ _ _ _ _ _ _ [] _ _ _ (cut_last c.loop-block.c a.run.now) (omega arith) inv.patched c.patch-then-left.ensures)))
+    (patched_all _ _ _ _ _ _ _ _ _ _ (omega (arith, end)) (omega (arith, end))
+    (patched_block _ _ _ _ _ _ _ _ [] _ _ _ (cut_last c.loop-block.c a.run.now) (omega arith) inv.patched c.patch-then-left.ensures)))
 
 pub returns-else-left : goal.returns-else-left
 returns-else-left c =
@@ -69,4 +69,4 @@ returns-else-left c =
     let end = cut_end c.loop-block.c a.run.now inv.within in
     patched_written L a.shape.e a.row a.strip a.offset a.run.now a.stripe.now F c.requires.place.0 c.requires.place.1 c.requires.size _
     (touches_patched L F a.row a.strip c.requires.place.0 c.requires.place.1 a.shape.e a.offset (length a.run.now) _ _ _ c.places-t.result c.places-t.ensures
-    (patched_all _ _ _ _ _ _ _ _ _ _ (omega arith) inv.patched))
+    (patched_all _ _ _ _ _ _ _ _ _ _ (omega arith) (omega arith) inv.patched))
