@@ -1,5 +1,7 @@
 // Every lost set of one and of two strips, of every accepted shape with n up to 9 at e = 3: rebuilt from sound survivors, and from survivors
 // of which each element in turn was damaged. Prints each failure, and what came of all.
+ghost use Rattle.std.specs.Prelude.{◌≡◌, length};
+
 use crate::counts::{Counts, Seen};
 use crate::lost_set::{E, LostSet};
 use crate::trial::{Trial, fresh};
@@ -11,7 +13,9 @@ use std::num::Wrapping;
 const LARGEST: usize = 177;
 
 // What came of damage to each survivor in turn.
-fn damage_each(rt: &impl Print, trial: &Trial, room: &mut [u8]) -> io::Result<Seen> {
+fn damage_each(rt: &impl Print, trial: &Trial, room: &mut [u8]) -> io::Result<Seen>
+    requires { length trial.now.stripe.now ≡ length room.old }
+{
     let lost = trial.lost;
     let mut seen = Seen::default();
     for p in 0..trial.places() {
@@ -35,7 +39,9 @@ fn lose_set(
     lost: LostSet,
     stripe: &mut [u8],
     room: &mut [u8],
-) -> io::Result<()> {
+) -> io::Result<()>
+    requires { length stripe.old ≡ length room.old }
+{
     let made = fresh(lost, stripe);
     let trial = Trial::new(lost, stripe);
     let back = made && trial.comes_back(room);

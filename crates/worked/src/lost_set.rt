@@ -1,6 +1,6 @@
 // A lost set of one or two strips of a stripe at e = 3, and its bytes: which are lost, and whether they and the survivors are what they
 // should be.
-ghost use Rattle.std.specs.Prelude.{◌<◌, ◌≤◌};
+ghost use Rattle.std.specs.Prelude.{◌≡◌, ◌<◌, ◌≤◌, length};
 
 use shape::Shape;
 use std::fmt;
@@ -8,10 +8,17 @@ use std::fmt;
 // e, the bytes of an element.
 pub(crate) const E: usize = 3;
 
-// Byte k, which is y, after damage to a place, if any: a number that is not 0, another one for each place, is added to one byte of the place.
-fn changed(damage: Option<usize>, k: usize, y: u8) -> u8 {
+// A number that is added to a byte.
+#[derive(Clone, Copy)]
+pub(crate) struct Damage {
+    pub byte: usize,
+    pub number: u8,
+}
+
+// Byte k, which is y, after the damage, if any.
+fn changed(damage: Option<Damage>, k: usize, y: u8) -> u8 {
     match damage {
-        Some(p) if (k / E, k % E) == (p, p % E) => y ^ (p % 255 + 1) as u8,
+        Some(d) if k == d.byte => y ^ d.number,
         _ => y,
     }
 }
@@ -51,16 +58,27 @@ impl LostSet {
         (1 << self.a) | (1 << self.b)
     }
 
-    // Whether place p stands in a lost strip.
-    pub(crate) fn has_place(self, p: usize) -> bool {
-        let j = p / (self.shape.r + 1);
+    // Whether strip j is lost.
+    fn has(self, j: usize) -> bool {
         j == self.a || j == self.b
     }
 
+    // Whether place p stands in a lost strip.
+    pub(crate) fn has_place(self, p: usize) -> bool {
+        self.has(p / (self.shape.r + 1))
+    }
+
+    // Whether byte k does. One division finds its strip, as it is asked of every byte.
+    fn has_byte(self, k: usize) -> bool {
+        self.has(k / (E * (self.shape.r + 1)))
+    }
+
     // The room becomes the stripe with the damage, and FF in the lost strips.
-    pub(crate) fn lose(self, stripe: &[u8], damage: Option<usize>, room: &mut [u8]) {
+    pub(crate) fn lose(self, stripe: &[u8], damage: Option<Damage>, room: &mut [u8])
+        requires { length stripe.now ≡ length room.old }
+    {
         for ((k, y), &x) in room.iter_mut().enumerate().zip(stripe) {
-            *y = if self.has_place(k / E) {
+            *y = if self.has_byte(k) {
                 0xff
             } else {
                 changed(damage, k, x)
@@ -69,8 +87,10 @@ impl LostSet {
     }
 
     // Whether the survivors of the room are those of the stripe with the damage.
-    pub(crate) fn kept(self, stripe: &[u8], damage: Option<usize>, room: &[u8]) -> bool {
-        room.iter().zip(stripe).enumerate().all(|(k, (&y, &x))| self.has_place(k / E)
+    pub(crate) fn kept(self, stripe: &[u8], damage: Option<Damage>, room: &[u8]) -> bool
+        requires { length stripe.now ≡ length room.now }
+    {
+        room.iter().zip(stripe).enumerate().all(|(k, (&y, &x))| self.has_byte(k)
             || y == changed(damage, k, x))
     }
 
@@ -78,6 +98,6 @@ impl LostSet {
     pub(crate) fn cleared(self, room: &[u8]) -> bool {
         room.iter()
             .enumerate()
-            .all(|(k, &y)| !self.has_place(k / E) || y == 0)
+            .all(|(k, &y)| !self.has_byte(k) || y == 0)
     }
 }

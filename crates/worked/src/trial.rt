@@ -1,5 +1,7 @@
 // A trial of a lost set: a stripe loses it and is rebuilt, from sound survivors or from damaged ones, and every byte is compared.
-use crate::lost_set::{E, LostSet};
+ghost use Rattle.std.specs.Prelude.{◌≡◌, ◌+◌, ◌*◌, ◌/◌, ◌<◌, length};
+
+use crate::lost_set::{Damage, E, LostSet};
 use crate::random::Random;
 use crate::unused::{unused_parity, used_lines};
 use shape::{Refusal, Shape};
@@ -48,13 +50,17 @@ pub(crate) struct Trial<'a> {
 }
 
 impl<'a> Trial<'a> {
-    pub(crate) fn new(lost: LostSet, stripe: &'a [u8]) -> Self {
+    pub(crate) fn new(lost: LostSet, stripe: &'a [u8]) -> Self
+        ensures { result.stripe.now ≡ stripe.now }
+    {
         let used = used_lines(lost);
         Trial { lost, used, stripe }
     }
 
     // The places of the stripe.
-    pub(crate) fn places(&self) -> usize {
+    pub(crate) fn places(&self) -> usize
+        ensures { result ≡ length self.now.stripe.now / 3 }
+    {
         self.stripe.len() / E
     }
 
@@ -64,21 +70,32 @@ impl<'a> Trial<'a> {
     }
 
     // Loses the set from the stripe with the damage, and rebuilds it in the room.
-    fn rebuild(&self, damage: Option<usize>, room: &mut [u8]) -> Result<(), Refusal> {
+    fn rebuild(&self, damage: Option<Damage>, room: &mut [u8]) -> Result<(), Refusal>
+        requires { length self.now.stripe.now ≡ length room.old }
+    {
         let Shape { n, r, s, .. } = self.lost.shape;
         self.lost.lose(self.stripe, damage, room);
         rebuild::rebuild(n, r, s, E, room, self.lost.mask())
     }
 
     // Whether the stripe comes back from the loss: answer 0, and every byte is the same.
-    pub(crate) fn comes_back(&self, room: &mut [u8]) -> bool {
+    pub(crate) fn comes_back(&self, room: &mut [u8]) -> bool
+        requires { length self.now.stripe.now ≡ length room.old }
+    {
         self.rebuild(None, room).is_ok() && self.stripe == &*room
     }
 
-    // What rebuild makes of the stripe with damage to place p.
-    pub(crate) fn damaged(&self, p: usize, room: &mut [u8]) -> Damaged {
-        let answer = self.rebuild(Some(p), room);
-        if !self.lost.kept(self.stripe, Some(p), room) {
+    // What rebuild makes of the stripe with damage to place p: a number that is not 0, another one for each place, is added to one byte of it.
+    pub(crate) fn damaged(&self, p: usize, room: &mut [u8]) -> Damaged
+        requires place { p * 3 + 2 < length self.now.stripe.now }
+        requires size { length self.now.stripe.now ≡ length room.old }
+    {
+        let damage = Some(Damage {
+            byte: p * E + p % E,
+            number: (p % 255 + 1) as u8,
+        });
+        let answer = self.rebuild(damage, room);
+        if !self.lost.kept(self.stripe, damage, room) {
             return Damaged::Wrong;
         }
         match answer {
