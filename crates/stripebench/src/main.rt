@@ -17,7 +17,7 @@ use replies::{Refused, Reply};
 use std::io::{self, Read};
 use std::ops::ControlFlow;
 
-// Prints the line of a record that was read whole.
+// Prints the line of a record that was read whole. The kind is the byte as it came in, and no enum: `bad` and `cut` print it too.
 fn line(rt: &impl Print, kind: u8, answer: Result<Reply, Refused>) -> io::Result<()> {
     match answer {
         Ok(reply) => println!(rt; "{kind} {reply}"),

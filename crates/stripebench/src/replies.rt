@@ -6,7 +6,7 @@ ghost use Rattle.stripebench.specs.Replies.{refused_number, reply_text, refused_
 use shape::Refusal;
 use std::fmt;
 
-// What comes with a record that is done.
+// What comes with a record that is done: no number, one or two, which no Option says.
 #[derive(Clone, Copy, Debug, PartialEq, Eq)]
 pub enum Reply {
     Done,
